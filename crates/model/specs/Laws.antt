@@ -1,0 +1,70 @@
+-- What is claimed of the tree, the nearest and the text, in the words of the definitions alone; each record is proved for all its arguments.
+use mathlib.Core.Path.{_≡_}
+use mathlib.Core.List.{List, [], _∷_, _++_, List·Permᴰ}
+use mathlib.Core.Option.{none, some}
+use mathlib.Core.Bool.{true, false}
+use Prim.Native.Nat.{ℕ, suc, _+_, _≤_, _<_, Ordering·lt}
+use lib.ListN.{length}
+use Rattle.model.specs.Entry.{Entry, cmp, distance}
+use Rattle.model.specs.Tree.{Item, Tree, items, entriesOf, slotsOf, height, size, balanced, ordered}
+use Rattle.model.specs.Rebuild.{rank, rebuild, listing}
+use Rattle.model.specs.Strike.{freed}
+use Rattle.model.specs.Ask.{has, newOf, nearest, fewest, tallest}
+use Rattle.model.specs.Book.{Book, fresh, added, struck}
+use Rattle.model.specs.Text.{broken, saved, ranged, textOf, parse}
+use Rattle.model.specs.Lines.{rightLine}
+use Rattle.model.specs.Calls.{addedAll}
+use Rattle.model.specs.Show.{bookLines, program}
+use Rattle.model.specs.Demands.{InOrder, rising}
+
+-- An add changes the entries by exactly the one named and the slots by exactly the first free one; order and balance stay.
+pub record Adds (K C : ℕ) (b : Book) (e : Entry) (s : ℕ) (ss : List ℕ) : Type 0 where
+  pub once : InOrder K C b → length e ≡ K → has e (listing (b .tree)) ≡ false → b .chain ≡ s ∷ ss
+      → InOrder K C (added e b) × List·Permᴰ (entriesOf (items (added e b .tree))) (e ∷ entriesOf (items (b .tree))) × List·Permᴰ (slotsOf (items (added e b .tree))) (s ∷ slotsOf (items (b .tree))) × (added e b .chain ≡ ss)
+
+-- A strike takes away exactly the entry named and gives up exactly one slot, to the front of the chain; order and balance stay.
+pub record Strikes (K C : ℕ) (b : Book) (e : Entry) : Type 0 where
+  pub once : InOrder K C b → has e (listing (b .tree)) ≡ true
+      → InOrder K C (struck e b) × List·Permᴰ (entriesOf (items (b .tree))) (e ∷ entriesOf (items (struck e b .tree))) × List·Permᴰ (slotsOf (items (b .tree))) (freed 0 e (b .tree) ∷ slotsOf (items (struck e b .tree))) × (struck e b .chain ≡ freed 0 e (b .tree) ∷ b .chain)
+
+-- A rebuilt tree holds the same items, is in order where no two entries are the same, is balanced, and no tree of as many is lower.
+pub record Rebuilds (t : ℕ) (is : List Item) : Type 0 where
+  pub same : List·Permᴰ (items (rebuild t is)) is
+  pub order : rising none (entriesOf (rank 0 is)) ≡ true → ordered t (rebuild t is) ≡ true
+  pub balance : balanced (rebuild t is) ≡ true
+  pub least : (u : Tree) → size u ≡ length is → height (rebuild t is) ≤ height u
+
+-- A balanced tree of a height has at least the fewest entries; the greatest height is passed by no balanced tree, and attained by one in
+-- order; up to 4,096 entries it is at most 16.
+pub record Heights (n : ℕ) : Type 0 where
+  pub fewestOf : (u : Tree) → balanced u ≡ true → fewest (height u) ≤ size u
+  pub passed : (u : Tree) → balanced u ≡ true → size u ≡ n → height u ≤ tallest n
+  pub attained : (u : Tree) × (size u ≡ n) × (height u ≡ tallest n) × (balanced u ≡ true) × (ordered 0 u ≡ true)
+  pub sixteen : n ≤ 4096 → tallest n ≤ 16
+
+-- The nearest is one of the entries, none is nearer, and of those as near none comes before it in listing order.
+pub record Nearest (steps : List ℕ) (q : Entry) (es : List Entry) : Type 0 where
+  pub empty : nearest steps q es ≡ none → es ≡ []
+  pub best : (e : Entry) → nearest steps q es ≡ some e
+      → (has e es ≡ true) × ((x : Entry) → has x es ≡ true → (distance steps q e ≤ distance steps q x) × (distance steps q e ≡ distance steps q x → ¬ (cmp 0 x e ≡ Ordering·lt)))
+
+-- What save prints, taking apart gives back; every accepted text is the print of its entries; the line of a refusal is the first bad one.
+pub record Texts (text : List ℕ) : Type 0 where
+  pub back : (K : ℕ) (es : List Entry) → 1 ≤ K → K ≤ 4 → length es ≤ 4096 → ((e : Entry) → has e es ≡ true → (length e ≡ K) × (ranged e ≡ true)) → rising none es ≡ true → parse (textOf K es) ≡ saved K es
+  pub only : (K : ℕ) (es : List Entry) → parse text ≡ saved K es → text ≡ textOf K es
+  pub line : (l : ℕ) → parse text ≡ broken l → (j : ℕ) × (l ≡ suc j) × (rightLine text j ≡ false) × ((i : ℕ) → i < j → rightLine text i ≡ true)
+  pub whole : (K : ℕ) (es : List Entry) → parse text ≡ saved K es → (i : ℕ) → rightLine text i ≡ true
+
+-- Line by line: an entry is added where it is not there by then. (Saved book: what is not yet there, in text order.)
+abbrev pub addedEach : List Entry → Book → Book
+addedEach [] b = b
+addedEach (e ∷ es) b = elim (has e (listing (b .tree))) [ true ↦ addedEach es b | false ↦ addedEach es (added e b) ]
+
+-- For a text, which rises, that is the same as adding what was not there before the call.
+pub record Linewise (K C : ℕ) (b : Book) (es : List Entry) : Type 0 where
+  pub same : InOrder K C b → ((e : Entry) → has e es ≡ true → length e ≡ K) → rising none es ≡ true → size (b .tree) + length (newOf (listing (b .tree)) es) ≤ C
+      → addedAll (newOf (listing (b .tree)) es) b ≡ addedEach es b
+
+-- The program prints the tree of the text's entries added one by one to a fresh pool of 512.
+pub record Shows (text : List ℕ) : Type 0 where
+  pub tree : (K : ℕ) (es : List Entry) → parse text ≡ saved K es → length text ≤ 32768 → length es ≤ 512 → program text ≡ bookLines K (addedAll es (fresh 512))

@@ -1,0 +1,23 @@
+-- The paper as definitions, in its order: document 01, and nothing else.
+pub mod Number
+pub mod Entry
+pub mod Tree
+pub mod Rebuild
+pub mod Add
+pub mod Strike
+pub mod Ask
+pub mod Book
+pub mod Pool
+pub mod Text
+pub mod Lines
+pub mod Answer
+pub mod Gate
+pub mod Calls
+pub mod Show
+pub mod Runs
+pub mod Plain
+pub mod Bench
+pub mod Damage
+pub mod Example
+pub mod Demands
+pub mod Laws
