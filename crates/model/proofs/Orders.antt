@@ -42,23 +42,23 @@ lt→compare (suc m) (suc n) h = compare·suc-suc m n ∙ lt→compare m n (omeg
 compare-trans : (a b c : ℕ) → compare a b ≡ Ordering·lt → compare b c ≡ Ordering·lt → compare a c ≡ Ordering·lt
 compare-trans a b c p q = lt→compare a c (omega (arith, compare→lt a b p, compare→lt b c q))
 
-order-flip : (x y : ℤ) → order y x ≡ flip (order x y)
+pub order-flip : (x y : ℤ) → order y x ≡ flip (order x y)
 order-flip (pos a) (pos b) = compare-flip a b
 order-flip (pos a) (negsuc b) = refl
 order-flip (negsuc a) (pos b) = refl
 order-flip (negsuc a) (negsuc b) = compare-flip b a
 
-order-refl : (x : ℤ) → order x x ≡ Ordering·eq
+pub order-refl : (x : ℤ) → order x x ≡ Ordering·eq
 order-refl (pos a) = compare-refl a
 order-refl (negsuc a) = compare-refl a
 
-order-eq : (x y : ℤ) → order x y ≡ Ordering·eq → x ≡ y
+pub order-eq : (x y : ℤ) → order x y ≡ Ordering·eq → x ≡ y
 order-eq (pos a) (pos b) e = ap pos (compare-eq a b e)
 order-eq (pos a) (negsuc b) e = cc
 order-eq (negsuc a) (pos b) e = cc
 order-eq (negsuc a) (negsuc b) e = ap negsuc (sym (compare-eq b a e))
 
-order-trans : (x y z : ℤ) → order x y ≡ Ordering·lt → order y z ≡ Ordering·lt → order x z ≡ Ordering·lt
+pub order-trans : (x y z : ℤ) → order x y ≡ Ordering·lt → order y z ≡ Ordering·lt → order x z ≡ Ordering·lt
 order-trans (pos a) (pos b) (pos c) p q = compare-trans a b c p q
 order-trans (pos a) (pos b) (negsuc c) p q = q
 order-trans (pos a) (negsuc b) (pos c) p q = cc

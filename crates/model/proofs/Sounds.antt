@@ -139,16 +139,25 @@ lies-sized : (K C : ℕ) (f : ℕ → Cell) → ((s : ℕ) → InPool C s → le
 lies-sized K C f w nil p q = tt
 lies-sized K C f w (node i l r) (p, pl, pr) (q, ql, qr) = (ap (λ c. length (c .key)) (sym q) ∙ w (i .slot) p, lies-sized K C f w l pl ql, lies-sized K C f w r pr qr)
 
-is-of : (h : Head) (ks : List ℤ) (ls : List ℕ) → length ks ≡ h .k * h .c → length ls ≡ 3 * h .c → (b : Book) → Fits h (cellOf (h .k) ks ls) b → rootSlot (b .tree) ≡ h .root → first (b .chain) ≡ h .free → All (λ e. length e ≡ h .k) (b .tree) → PermS (slots (b .tree) ++ b .chain) (upFrom (h .c) 1) → ((s : ℕ) → InPool (h .c) s → cell (h .k) b s ≡ cellOf (h .k) ks ls s) → Is h ks ls b
+-- two tables are a book's where every slot's cell is
+pub image-of : (K C : ℕ) (b : Book) (ks : List ℤ) (ls : List ℕ) → length ks ≡ K * C → length ls ≡ 3 * C → ((s : ℕ) → InPool C s → cell K b s ≡ cellOf K ks ls s) → (keys K C b ≡ ks) × (links K C b ≡ ls)
 unfolding links keys
-is-of h ks ls ek el b x r f z p g = record {
-  valid = record { ordered = x .ordered; balanced = x .balanced; sized = z; pool = p };
-  count = x .count;
-  root = r;
-  free = f;
-  sameKeys = keys-ext (h .k) b (h .c) 1 ks ek (λ n m. rw one-add (ap (λ c. c .key) (g (suc n) (omega arith, omega arith))));
-  sameLinks = links-ext (h .k) b (h .c) 1 ls el (λ n m. let q = g (suc n) (omega arith, omega arith) in rw one-add (ap (λ c. c .left) q, ap (λ c. c .right) q, ap (λ c. c .high) q));
-}
+image-of K C b ks ls ek el g = (
+  keys-ext K b C 1 ks ek (λ n m. rw one-add (ap (λ c. c .key) (g (suc n) (omega arith, omega arith)))),
+  links-ext K b C 1 ls el (λ n m. let q = g (suc n) (omega arith, omega arith) in rw one-add (ap (λ c. c .left) q, ap (λ c. c .right) q, ap (λ c. c .high) q)),
+)
+
+is-of : (h : Head) (ks : List ℤ) (ls : List ℕ) → length ks ≡ h .k * h .c → length ls ≡ 3 * h .c → (b : Book) → Fits h (cellOf (h .k) ks ls) b → rootSlot (b .tree) ≡ h .root → first (b .chain) ≡ h .free → All (λ e. length e ≡ h .k) (b .tree) → PermS (slots (b .tree) ++ b .chain) (upFrom (h .c) 1) → ((s : ℕ) → InPool (h .c) s → cell (h .k) b s ≡ cellOf (h .k) ks ls s) → Is h ks ls b
+is-of h ks ls ek el b x r f z p g =
+    let m = image-of (h .k) (h .c) b ks ls ek el g in
+    record {
+      valid = record { ordered = x .ordered; balanced = x .balanced; sized = z; pool = p };
+      count = x .count;
+      root = r;
+      free = f;
+      sameKeys = m .0;
+      sameLinks = m .1;
+    }
 
 pub sound-is : (h : Head) (ks : List ℤ) (ls : List ℕ) → length ks ≡ h .k * h .c → length ls ≡ 3 * h .c → sound h ks ls ≡ true → Is h ks ls (bookOf h ks ls)
 unfolding sound bookOf

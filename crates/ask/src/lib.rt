@@ -1,0 +1,2 @@
+// What is asked of a pool: the walk of look-up, boxes, the nearest. Nothing here writes to a table.
+pub mod walk;

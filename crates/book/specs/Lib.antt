@@ -1,0 +1,3 @@
+-- What the inner contracts of this crate cite; the public calls cite the model alone.
+pub mod Gates
+pub mod Fresh

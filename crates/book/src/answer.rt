@@ -1,0 +1,76 @@
+// One maker for each kind of answer: every part that a call has no value for is 0.
+use model::Answer;
+use model::Entry;
+use model::Head;
+use model::Outcome;
+use model::Refusal;
+ghost use mathlib.Core.Path.{_≡_};
+ghost use Prim.Native.Nat.{_≤_};
+ghost use lib.ListN.{take};
+ghost use Rattle.model.specs.Answer as answers;
+ghost use Rattle.model.specs.Entry as entries;
+
+pub fn plain(outcome: Outcome, head: Head) -> Answer
+    ensures { λ r. ⌜ r ≡ answers.plain outcome head ⌝ }
+{
+    Answer {
+        outcome,
+        head,
+        entry: Entry { f: [0i64; 4] },
+        slot: 0,
+        reads: 0,
+        distance: 0,
+        count: 0,
+        bytes: 0,
+        line: 0,
+    }
+}
+
+// A refusal tells its number alone.
+pub fn refused(head: Head, why: Refusal) -> Answer
+    ensures { λ r. ⌜ r ≡ answers.refused head 0 why ⌝ }
+{
+    plain(Outcome::Refused(why), head)
+}
+
+// A found entry, its numbers already 0 beyond the fields.
+pub fn met(head: Head, entry: Entry, slot: usize, reads: usize) -> Answer
+    ensures { λ r. ⌜ ((e : entries.Entry) → entry ≡ answers.outward e → r ≡ answers.met head e slot reads) ⌝ }
+{
+    Answer {
+        outcome: Outcome::Found,
+        head,
+        entry,
+        slot,
+        reads,
+        distance: 0,
+        count: 0,
+        bytes: 0,
+        line: 0,
+    }
+}
+
+pub fn unmet(head: Head, reads: usize) -> Answer
+    ensures { λ r. ⌜ r ≡ answers.unmet head reads ⌝ }
+{
+    Answer {
+        outcome: Outcome::Absent,
+        head,
+        entry: Entry { f: [0i64; 4] },
+        slot: 0,
+        reads,
+        distance: 0,
+        count: 0,
+        bytes: 0,
+        line: 0,
+    }
+}
+
+// The first K numbers of an entry, 0 beyond them.
+pub fn cut_to(e: Entry, k: usize) -> Entry
+    requires { ⌜ k ≤ 4 ⌝ }
+    ensures { λ r. ⌜ r ≡ answers.outward (take k (e .f)) ⌝ }
+{
+    let f = e.f;
+    cells::slot::entry_of(&f[..k])
+}

@@ -1,0 +1,62 @@
+// The public calls. Each takes every input: it checks in the order of the table, then works, and answers with the whole answer.
+use crate::gate::Gate;
+use ask::walk::Walk;
+use model::Answer;
+use model::Entry;
+use model::Head;
+use model::Outcome;
+use model::Refusal;
+use model::Shape;
+ghost use mathlib.Core.Path.{_≡_};
+ghost use Rattle.model.specs.Calls as calls;
+
+pub mod answer;
+pub mod fresh;
+pub mod gate;
+
+// A fresh pool over whatever the memory held.
+pub fn start(k: usize, c: usize, keys: &mut [i64], links: &mut [usize]) -> Answer
+    ensures answer { λ r. ⌜ r ≡ calls.start k c (now (keys .entry)) (now (links .entry)) .answer ⌝ }
+    ensures keys { λ _. ⌜ now (keys .exit) ≡ calls.start k c (now (keys .entry)) (now (links .entry)) .keys ⌝ }
+    ensures links { λ _. ⌜ now (links .exit) ≡ calls.start k c (now (keys .entry)) (now (links .entry)) .links ⌝ }
+{
+    let g = gate::sizes(k, c, keys.len(), links.len(), c);
+    if let Gate::Shut(why) = g {
+        let none = Head {
+            k: 0,
+            c: 0,
+            root: 0,
+            free: 0,
+            n: 0,
+        };
+        return answer::refused(none, why);
+    }
+    fresh::clear_numbers(keys);
+    fresh::chain_up(links, c);
+    let head = Head {
+        k,
+        c,
+        root: 0,
+        free: 1,
+        n: 0,
+    };
+    answer::plain(Outcome::Done, head)
+}
+
+// The slot of an entry, by the walk from the root, which trusts nothing.
+pub fn look_up(head: Head, keys: &[i64], links: &[usize], entry: Entry) -> Answer
+    ensures { λ r. ⌜ r ≡ calls.lookUp head (now (keys .entry)) (now (links .entry)) entry .answer ⌝ }
+{
+    let k = head.k;
+    let c = head.c;
+    let g = gate::sizes(k, c, keys.len(), links.len(), c);
+    if let Gate::Shut(why) = g {
+        return answer::refused(head, why);
+    }
+    let w = ask::walk::walk_down(Shape { k, c }, head.root, entry, keys, links);
+    match w {
+        Walk::Found(slot, reads) => answer::met(head, answer::cut_to(entry, k), slot, reads),
+        Walk::Gone(reads) => answer::unmet(head, reads),
+        Walk::Astray => answer::refused(head, Refusal::Unsound),
+    }
+}
