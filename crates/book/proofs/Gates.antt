@@ -81,11 +81,11 @@ module _ (K C nk nl ns : ℕ) where
       pub all-right : nk ≡ K * C → nl ≡ 3 * C → ns ≡ C → Open ≡ told (gate rows)
       all-right a b c = sym (ap told (past2 ∙ gate-off (not (fitting K C nk nl ns)) Lengths [] (ap not (pair (pair (eq-eqb nk (K * C) a) (eq-eqb nl (3 * C) b)) (eq-eqb ns C c)))))
 
-told-open : (o : Option Refusal) → told o ≡ Open → o ≡ none
+pub told-open : (o : Option Refusal) → told o ≡ Open → o ≡ none
 told-open none e = refl
 told-open (some r) e = let z : _≡_ {A = ℕ} 0 1 = cc in absurd (omega arith)
 
-told-shut : (o : Option Refusal) (r : Refusal) → told o ≡ Shut r → o ≡ some r
+pub told-shut : (o : Option Refusal) (r : Refusal) → told o ≡ Shut r → o ≡ some r
 told-shut none r e = let z : _≡_ {A = ℕ} 0 1 = cc in absurd (omega arith)
 told-shut (some q) r e = let z : q ≡ r = cc in ap some z
 

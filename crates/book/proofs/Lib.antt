@@ -1,4 +1,8 @@
 -- Laws of the gate and of a fresh pool.
+pub mod Counts
 pub mod Gates
 pub mod LookUps
+pub mod Nearby
+pub mod Pools
 pub mod Starts
+pub mod Steps

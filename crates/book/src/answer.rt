@@ -66,6 +66,40 @@ pub fn unmet(head: Head, reads: usize) -> Answer
     }
 }
 
+// The nearest entry, its numbers already 0 beyond the fields.
+pub fn close(head: Head, entry: Entry, slot: usize, distance: u64) -> Answer
+    ensures { λ r. ⌜ ((e : entries.Entry) → entry ≡ answers.outward e → r ≡ answers.close head e slot distance) ⌝ }
+{
+    Answer {
+        outcome: Outcome::Found,
+        head,
+        entry,
+        slot,
+        reads: 0,
+        distance,
+        count: 0,
+        bytes: 0,
+        line: 0,
+    }
+}
+
+// The number of entries of a box.
+pub fn counted(head: Head, count: usize) -> Answer
+    ensures { λ r. ⌜ r ≡ answers.counted head count ⌝ }
+{
+    Answer {
+        outcome: Outcome::Done,
+        head,
+        entry: Entry { f: [0i64; 4] },
+        slot: 0,
+        reads: 0,
+        distance: 0,
+        count,
+        bytes: 0,
+        line: 0,
+    }
+}
+
 // The first K numbers of an entry, 0 beyond them.
 pub fn cut_to(e: Entry, k: usize) -> Entry
     requires { ⌜ k ≤ 4 ⌝ }

@@ -1,9 +1,13 @@
-// The one gate of refusals 1, 2 and 3.
+// The one gate: refusals 1 to 3 from the sizes, then 4 from the pool.
+use model::Head;
 use model::Refusal;
 ghost use mathlib.Core.Path.{_≡_};
 ghost use Rattle.model.specs.Answer.{gate};
+ghost use Prim.Native.Nat.{_≤_};
+ghost use lib.ListN.{take};
 ghost use Rattle.model.specs.Gate.{rows3};
-ghost use Rattle.book.specs.Gates.{told, fitting};
+ghost use Rattle.model.specs.Calls.{anyZero};
+ghost use Rattle.book.specs.Gates.{told, fitting, pooled};
 
 // Whether a call is let in.
 pub enum Gate {
@@ -37,4 +41,36 @@ pub fn sizes(k: usize, c: usize, keys: usize, links: usize, scratch: usize) -> G
         return Gate::Shut(Refusal::Lengths);
     }
     Gate::Open
+}
+
+// Rows 1 to 4: where the sizes are right the pool is judged.
+pub fn pool(head: Head, keys: &[i64], links: &[usize], scratch: usize) -> Gate
+    ensures { λ r. ⌜ r ≡ told (gate (pooled head (now (keys .entry)) (now (links .entry)) scratch)) ⌝ }
+{
+    let g = sizes(head.k, head.c, keys.len(), links.len(), scratch);
+    match g {
+        Gate::Shut(why) => Gate::Shut(why),
+        Gate::Open => {
+            if sound::is_sound(head, keys, links) {
+                Gate::Open
+            } else {
+                Gate::Shut(Refusal::Unsound)
+            }
+        }
+    }
+}
+
+// Whether one of the first k steps is 0.
+pub fn zero_step(steps: [u64; 4], k: usize) -> bool
+    requires { ⌜ k ≤ 4 ⌝ }
+    ensures { λ r. ⌜ r ≡ anyZero (take k steps) ⌝ }
+{
+    let mut i: usize = 0;
+    while i < k {
+        if steps[i] == 0 {
+            return true;
+        }
+        i += 1;
+    }
+    false
 }

@@ -1,7 +1,9 @@
 // The public calls. Each takes every input: it checks in the order of the table, then works, and answers with the whole answer.
 use crate::gate::Gate;
+use ask::near::Best;
 use ask::walk::Walk;
 use model::Answer;
+use model::Bound;
 use model::Entry;
 use model::Head;
 use model::Outcome;
@@ -59,4 +61,62 @@ pub fn look_up(head: Head, keys: &[i64], links: &[usize], entry: Entry) -> Answe
         Walk::Gone(reads) => answer::unmet(head, reads),
         Walk::Astray => answer::refused(head, Refusal::Unsound),
     }
+}
+
+// How many entries a box holds.
+pub fn count(head: Head, keys: &[i64], links: &[usize], bounds: [Bound; 4]) -> Answer
+    ensures { λ r. ⌜ r ≡ calls.count head (now (keys .entry)) (now (links .entry)) bounds .answer ⌝ }
+{
+    let k = head.k;
+    let c = head.c;
+    let g = gate::pool(head, keys, links, c);
+    if let Gate::Shut(why) = g {
+        return answer::refused(head, why);
+    }
+    let mut slots = [0usize; 4096];
+    let n = ask::boxes::collect(
+        Shape { k, c },
+        head.root,
+        0,
+        bounds,
+        keys,
+        links,
+        &mut slots[..c],
+        0,
+    );
+    answer::counted(head, n)
+}
+
+// The entry nearest a note, by steps; at a tie the first in listing order.
+pub fn nearest(head: Head, keys: &[i64], links: &[usize], query: Entry, steps: [u64; 4]) -> Answer
+    ensures { λ r. ⌜ r ≡ calls.near head (now (keys .entry)) (now (links .entry)) query steps .answer ⌝ }
+{
+    let k = head.k;
+    let c = head.c;
+    let g = gate::pool(head, keys, links, c);
+    if let Gate::Shut(why) = g {
+        return answer::refused(head, why);
+    }
+    if gate::zero_step(steps, k) {
+        return answer::refused(head, Refusal::Step);
+    }
+    let none = Best {
+        slot: 0,
+        distance: 0,
+    };
+    let b = ask::near::nearest_in(
+        Shape { k, c },
+        head.root,
+        0,
+        query,
+        steps,
+        keys,
+        links,
+        none,
+    );
+    if b.slot == 0 {
+        return answer::plain(Outcome::Absent, head);
+    }
+    let e = cells::slot::entry_at(keys, Shape { k, c }, b.slot);
+    answer::close(head, e, b.slot, b.distance)
 }

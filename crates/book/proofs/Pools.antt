@@ -1,0 +1,133 @@
+-- The gate with the pool judged: what it lets through, and what an open pool is.
+use mathlib.Core.Path.{_≡_, refl, sym, ap, subst, _∙_}
+use mathlib.Core.Option.{Option, none, some}
+use mathlib.Core.Bool.{Bool, true, false, not, _&&_}
+use mathlib.Core.List.{List, [], _∷_, _++_}
+use Prim.Native.Nat.{ℕ, _+_, _*_, _≤_, _<_}
+use native.Mathlib.Omega.{arith}
+use native.Mathlib.Nat.{zero-mod}
+use lib.ListN.{length}
+use lib.IntN.{ℤ}
+use borrow.Author.Tests.{not-false}
+use Rattle.model.specs.Entry.{cutField}
+use Rattle.model.specs.Tree.{Tree, items, size, ordered}
+use Rattle.model.specs.Book.{Book, Cell}
+use Rattle.model.specs.Pool.{cellOf, treeFrom, chainFrom, bookOf, sound}
+use Rattle.model.specs.Answer.{Row, gate, checked}
+use Rattle.model.specs.Gate.{rows3, sized, rows4}
+use Rattle.model.specs.declared.Head.{Head}
+use Rattle.model.specs.declared.Refusal.{Refusal}
+use Rattle.model.specs.declared.Refusal.the-variants.{Unsound}
+use Rattle.model.proofs.Gates.{gate-on, gate-off, checked-open, checked-shut}
+use Rattle.model.proofs.Laid.{laid-lies}
+use Rattle.model.proofs.Listings.{items-length}
+use Rattle.model.proofs.Ranks.{Distinct}
+use Rattle.model.proofs.Adds.{ordered-distinct}
+use Rattle.model.proofs.Sounds.{fitting-fits, Is, sound-is}
+use Rattle.model.proofs.Exactly.{valid-inOrder}
+use Rattle.cells.specs.Slots.{Room}
+use Rattle.cells.specs.Memory.{Rep}
+use Rattle.cells.proofs.Reps.{lies-rep}
+use Rattle.ask.specs.Standing.{Stands, Standing}
+use Rattle.sound.specs.Parts.{shapeOf}
+use Rattle.book.specs.Gates.{told, fitting, pooled}
+use Rattle.book.specs.declared.gate.Gate.{Gate}
+use Rattle.book.specs.declared.gate.Gate.the-variants.{Open, Shut}
+use Rattle.book.proofs.Gates.{told-open, told-shut, no-scratch, room}
+
+-- rows behind rows
+pub behind-shut : (rows more : List Row) (r : Refusal) → gate rows ≡ some r → gate (rows ++ more) ≡ some r
+behind-shut [] more r e = let z : _≡_ {A = ℕ} 0 1 = cc in absurd (omega arith)
+behind-shut ((c, q) ∷ rows) more r e = go c e (behind-shut rows more r)
+  where
+    go : (o : Bool) → gate ((o, q) ∷ rows) ≡ some r → (gate rows ≡ some r → gate (rows ++ more) ≡ some r) → gate ((o, q) ∷ (rows ++ more)) ≡ some r
+    go true h f = h
+    go false h f = f h
+
+pub behind-open : (rows more : List Row) → gate rows ≡ none → gate (rows ++ more) ≡ gate more
+behind-open [] more e = refl
+behind-open ((c, q) ∷ rows) more e = go c e (behind-open rows more)
+  where
+    go : (o : Bool) → gate ((o, q) ∷ rows) ≡ none → (gate rows ≡ none → gate (rows ++ more) ≡ gate more) → gate ((o, q) ∷ (rows ++ more)) ≡ gate more
+    go true h f = let z : _≡_ {A = ℕ} 0 1 = cc in absurd (omega arith)
+    go false h f = f h
+
+-- the tree of a sound pool lies at its root, and has no more entries than there are slots
+rep-of : (h : Head) (ks : List ℤ) (ls : List ℕ) → length ls ≡ 3 * h .c → sound h ks ls ≡ true → Rep (h .k) ks ls (h .root) (bookOf h ks ls .tree)
+unfolding sound bookOf
+rep-of h ks ls n e =
+    let f : ℕ → Cell = cellOf (h .k) ks ls in
+    let b : Book = record { tree = treeFrom (h .c) f (h .root); chain = chainFrom (h .c) f (h .free) } in
+    let t = laid-lies (h .c) (h .c) f (h .root) (fitting-fits h f b e .laidOk) in
+    subst (λ (r : ℕ). Rep (h .k) ks ls r (b .tree)) (t .0) (lies-rep (h .k) (h .c) ks ls n (b .tree) (t .1) (t .2))
+
+few-of : (h : Head) (ks : List ℤ) (ls : List ℕ) → sound h ks ls ≡ true → h .n ≤ h .c
+unfolding sound
+few-of h ks ls e = let x = fitting-fits h (cellOf (h .k) ks ls) (bookOf h ks ls) e .total in omega arith
+
+pub first-cut : (K : ℕ) → cutField K 0 ≡ 0
+unfolding cutField
+first-cut K = zero-mod K
+
+module _ (h : Head) (ks : List ℤ) (ls : List ℕ) (ns : ℕ) where
+  abbrev front : List Row
+  front = rows3 (h .k) (h .c) (fitting (h .k) (h .c) (length ks) (length ls) ns)
+
+  abbrev back : List Row
+  back = (not (sound h ks ls), Unsound) ∷ []
+
+  pub pool-shut : (r : Refusal) → gate front ≡ some r → Shut r ≡ told (gate (pooled h ks ls ns))
+  pool-shut r e = sym (ap told (behind-shut front back r e))
+
+  pub pool-sound : (b : Bool) → gate front ≡ none → b ≡ sound h ks ls → b ≡ true → Open ≡ told (gate (pooled h ks ls ns))
+  pool-sound b e s t = sym (ap told (behind-open front back e ∙ gate-off (not (sound h ks ls)) Unsound [] (ap not (sym s ∙ t))))
+
+  pub pool-unsound : (b : Bool) → gate front ≡ none → b ≡ sound h ks ls → b ≡ false → Shut Unsound ≡ told (gate (pooled h ks ls ns))
+  pool-unsound b e s t = sym (ap told (behind-open front back e ∙ gate-on (not (sound h ks ls)) Unsound [] (ap not (sym s ∙ t))))
+
+  -- an open pool
+  module _ (g : Gate) (is : g ≡ told (gate (pooled h ks ls ns))) (o : g ≡ Open) where
+    pub all-open : gate (pooled h ks ls ns) ≡ none
+    all-open = told-open (gate (pooled h ks ls ns)) (sym is ∙ o)
+
+    pub front-open : gate front ≡ none
+    front-open = go (gate front) refl
+      where
+        go : (x : Option Refusal) → gate front ≡ x → gate front ≡ none
+        go none e = e
+        go (some r) e = let q : some r ≡ none = sym (behind-shut front back r e) ∙ all-open in let z : _≡_ {A = ℕ} 0 1 = cc in absurd (omega arith)
+
+    pub is-sound : sound h ks ls ≡ true
+    is-sound = not-false (sound h ks ls) (go (not (sound h ks ls)) (sym (behind-open front back front-open) ∙ all-open))
+      where
+        go : (x : Bool) → gate ((x, Unsound) ∷ []) ≡ none → x ≡ false
+        go true e = let z : _≡_ {A = ℕ} 0 1 = cc in absurd (omega arith)
+        go false e = refl
+
+    pub pool-room : Room (shapeOf h) (length ks) (length ls)
+    pool-room = room (h .k) (h .c) (length ks) (length ls) ns Open (sym (ap told front-open)) refl
+
+    pub pool-is : Is h ks ls (bookOf h ks ls)
+    pool-is = sound-is h ks ls (pool-room .wide) (pool-room .long) is-sound
+
+    pub pool-rep : Rep (h .k) ks ls (h .root) (bookOf h ks ls .tree)
+    pool-rep = rep-of h ks ls (pool-room .long) is-sound
+
+    pub pool-distinct : Distinct (items (bookOf h ks ls .tree))
+    pool-distinct = ordered-distinct 0 (bookOf h ks ls .tree) (pool-is .valid .ordered)
+
+    pub pool-ordered : ordered 0 (bookOf h ks ls .tree) ≡ true
+    pool-ordered = valid-inOrder (h .k) (h .c) (bookOf h ks ls) (pool-is .valid) .order
+
+    pub pool-stands : Stands (h .k) ks ls (h .root) 0 (bookOf h ks ls .tree)
+    pool-stands = record { depth = 0; cut = first-cut (h .k); rep = pool-rep; inOrder = pool-ordered }
+
+    pub pool-standing : Standing (h .k) ks ls (h .root) 0 (h .c)
+    pool-standing = record { tree = bookOf h ks ls .tree; stands = pool-stands; few = rw (items-length (bookOf h ks ls .tree), pool-is .count) (few-of h ks ls is-sound) }
+
+  pub pool-refuses : (g : Gate) → g ≡ told (gate (pooled h ks ls ns)) → (r : Refusal) → g ≡ Shut r → gate (pooled h ks ls ns) ≡ some r
+  pool-refuses g is r e = told-shut (gate (pooled h ks ls ns)) r (sym is ∙ e)
+
+-- the same rows where no scratch is lent
+pub no-scratch-rows : (h : Head) (ks : List ℤ) (ls : List ℕ) → pooled h ks ls (h .c) ≡ rows4 h ks ls
+no-scratch-rows h ks ls = ap (λ b. rows3 (h .k) (h .c) b ++ ((not (sound h ks ls), Unsound) ∷ [])) (no-scratch (h .k) (h .c) ks ls)

@@ -1,0 +1,6 @@
+-- Laws of ranking and rebuilding.
+pub mod Sorting
+pub mod Merging
+pub mod Gathering
+pub mod Shapes
+pub mod Rebuilding

@@ -1,0 +1,4 @@
+-- What the contracts of this crate cite.
+pub mod Merge
+pub mod Ranking
+pub mod Rebuilding

@@ -1,0 +1,4 @@
+// Slots ranked by the super key, and a subtree rebuilt in place.
+pub mod gather;
+pub mod merge;
+pub mod rebuild;

@@ -1,0 +1,7 @@
+-- What the proofs of several functions use.
+mod Marks
+mod Fields
+mod Bounds
+mod Pass
+mod Walk
+mod Verdict

@@ -1,0 +1,5 @@
+pub mod Place
+pub mod Sign
+pub mod Line
+pub mod Strict
+pub mod Told
