@@ -17,6 +17,7 @@ use Rattle.model.specs.declared.Shape.{Shape}
 use Rattle.model.proofs.Strikes.{slots-append}
 use Rattle.cells.specs.Orders.{Deeper}
 use Rattle.cells.specs.Slots.{leftAt, rightAt, numbersOf, Slot, Room}
+use Rattle.cells.proofs.Writes.{sets-append}
 use Rattle.cells.proofs.Slots.{numbers-long}
 use Rattle.ask.specs.Standing.{Stands, Standing}
 use Rattle.ask.specs.Boxes.{lowerOpen, upperOpen, Weighed, boxed, slotsIn, noting, Noted, Collected}
@@ -25,10 +26,6 @@ use Rattle.ask.proofs.Boxed.{lower-shut, upper-shut, box-field, boxed-a
 use Rattle.ask.proofs.Cuts.{cut-least}
 use Rattle.ask.proofs.Standing.{top, lefts, rights, stands-left, stands-right, items-top, many, none-stands, keyed-here}
 use Rattle.ask.proofs.Walks.{keyed-in}
-
-sets-append : (l : List ℕ) (i : ℕ) (a b : List ℕ) → sets l i (a ++ b) ≡ sets (sets l i a) (i + length a) b
-sets-append l i [] b = rw add-zero
-sets-append l i (x ∷ a) b = sets-append (set l i x) (suc i) a b ∙ rw (suc-add, add-suc)
 
 -- what one of the sides of whatever stands at s leaves behind
 abbrev pub Step : List Bound → List ℕ → List ℕ → ℕ → ℕ → Tree → Type 0

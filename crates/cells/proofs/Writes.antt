@@ -15,7 +15,7 @@ use Rattle.cells.specs.Slots.{Slot, leftAt, addressOf, numbersOf, Keyed}
 use Rattle.cells.specs.Memory.{Frame, Same, Put, Wrote, Released, Claimed}
 use Rattle.cells.proofs.Slots.{slot-end, numbers-long}
 
-sets-append : (l : List ℤ) (i : ℕ) (a b : List ℤ) → sets l i (a ++ b) ≡ sets (sets l i a) (i + length a) b
+pub sets-append : {A : Type 0} (l : List A) (i : ℕ) (a b : List A) → sets l i (a ++ b) ≡ sets (sets l i a) (i + length a) b
 sets-append l i [] b = rw add-zero
 sets-append l i (x ∷ a) b = sets-append (set l i x) (suc i) a b ∙ rw (suc-add, add-suc)
 
@@ -49,7 +49,7 @@ place K a b n i (inr h) e l = inr (omega arith)
 
 pub wrote : (K : ℕ) (ks : List ℤ) (s : ℕ) (vs : Entry) → Keyed K (length ks) s → length vs ≡ K → Wrote K ks (sets ks (addressOf K s) vs) s vs
 unfolding numbersOf
-wrote K ks s vs h n = record { numbers = here; others = λ ls j p out. record { left = refl; right = refl; high = refl; numbers = elsewhere j p (λ e. out (inl e)) } }
+wrote K ks s vs h n = record { exactly = refl; numbers = here; others = λ ls j p out. record { left = refl; right = refl; high = refl; numbers = elsewhere j p (λ e. out (inl e)) } }
   where
     a : ℕ
     a = addressOf K s

@@ -4,10 +4,11 @@ use mathlib.Core.Logic.{_⊎_}
 use mathlib.Core.List.{List, [], _∷_}
 use Prim.Native.Nat.{ℕ, suc, _≤_}
 use lib.ListN.{length, replicate}
+use lib.Seq.{sets}
 use lib.IntN.{ℤ, pos}
 use Rattle.model.specs.Entry.{Entry}
 use Rattle.model.specs.Tree.{Item, Tree, nil, node, height}
-use Rattle.cells.specs.Slots.{leftAt, rightAt, heightAt, numbersOf, Slot}
+use Rattle.cells.specs.Slots.{addressOf, leftAt, rightAt, heightAt, numbersOf, Slot}
 
 -- the tables ks and ls hold the tree u at s
 abbrev pub Rep : ℕ → List ℤ → List ℕ → ℕ → Tree → Type 0
@@ -40,6 +41,7 @@ pub record Put (ls ls′ : List ℕ) (s l r h : ℕ) : Type 0 where
 
 -- slot s after its numbers were written, and every other slot
 pub record Wrote (K : ℕ) (ks ks′ : List ℤ) (s : ℕ) (e : Entry) : Type 0 where
+  pub exactly : ks′ ≡ sets ks (addressOf K s) e
   pub numbers : numbersOf K ks′ s ≡ e
   pub others : (ls : List ℕ) → Frame K ks ks′ ls ls (s ∷ [])
 

@@ -12,13 +12,10 @@ use Rattle.model.specs.Tree.{Tree, nil, node, height, items}
 use Rattle.model.proofs.Strikes.{slots, slots-append}
 use Rattle.cells.specs.Slots.{leftAt, rightAt, tall}
 use Rattle.cells.specs.Memory.{Rep}
+use Rattle.cells.proofs.Writes.{sets-append}
 use Rattle.cells.proofs.Slots.{tall-slot}
 use Rattle.cells.proofs.Reps.{Node, open-node, open-nil, tall-rep}
 use Rattle.rank.specs.Rebuilding.{Fitting, Gathered}
-
-sets-append : (l : List ℕ) (i : ℕ) (a b : List ℕ) → sets l i (a ++ b) ≡ sets (sets l i a) (i + length a) b
-sets-append l i [] b = rw add-zero
-sets-append l i (x ∷ a) b = sets-append (set l i x) (suc i) a b ∙ rw (suc-add, add-suc)
 
 placed : (vs l : List ℕ) (i : ℕ) → i + length vs ≤ length l → sets l i vs ≡ take i l ++ (vs ++ drop (i + length vs) l)
 placed vs l i h = sets-eq vs l i h ∙ append-assoc (take i l) vs (drop (i + length vs) l)

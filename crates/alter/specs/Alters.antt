@@ -1,0 +1,61 @@
+-- A tree in memory mended and a leaf put in: at every depth that is cut at field c, and no other slot changes.
+use mathlib.Core.Path.{_≡_}
+use mathlib.Core.List.{List, _∷_, _++_}
+use Prim.Native.Nat.{ℕ, suc}
+use lib.ListN.{length}
+use lib.IntN.{ℤ}
+use Rattle.model.specs.Entry.{cutField}
+use Rattle.model.specs.Tree.{Item, Tree, nil, node}
+use Rattle.model.specs.Add.{mend, insert}
+use Rattle.model.proofs.Lists.{Once-each}
+use Rattle.model.proofs.Strikes.{slots}
+use Rattle.cells.specs.Slots.{numbersOf, Slot}
+use Rattle.cells.specs.Memory.{Rep, Frame}
+use Rattle.alter.specs.Sides.{childAt, otherOf, onSide}
+use Rattle.alter.specs.declared.side.Side.{Side}
+
+abbrev pub itemIn : ℕ → List ℤ → ℕ → Item
+itemIn K ks s = record { slot = s; entry = numbersOf K ks s }
+
+-- trees lie at l and r, and no slot of them and s is there twice
+pub record Mendable (K : ℕ) (ks : List ℤ) (ls : List ℕ) (s l r : ℕ) : Type 0 where
+  pub low : Tree
+  pub high : Tree
+  pub left : Rep K ks ls l low
+  pub right : Rep K ks ls r high
+  pub here : Slot (length ls) s
+  pub once : Once-each (slots low ++ (s ∷ slots high))
+
+pub record Mended (K : ℕ) (ks : List ℤ) (ls ls′ : List ℕ) (c s l r x : ℕ) : Type 0 where
+  pub rep : (t : ℕ) → cutField K t ≡ c → (u w : Tree) → Rep K ks ls l u → Rep K ks ls r w → Rep K ks ls′ x (mend t (itemIn K ks s) u w)
+  pub frame : (u w : Tree) → Rep K ks ls l u → Rep K ks ls r w → Frame K ks ks ls ls′ (slots u ++ (s ∷ slots w))
+
+-- the same where the tree on a side is new and on the other side is the child of s
+pub record MendableOn (K : ℕ) (ks : List ℤ) (ls : List ℕ) (s : ℕ) (side : Side) (child : ℕ) : Type 0 where
+  pub new : Tree
+  pub old : Tree
+  pub child-rep : Rep K ks ls child new
+  pub other-rep : Rep K ks ls (childAt ls s (otherOf side)) old
+  pub here : Slot (length ls) s
+  pub once : Once-each (slots (onSide side new old) ++ (s ∷ slots (onSide side old new)))
+
+pub record MendedOn (K : ℕ) (ks : List ℤ) (ls ls′ : List ℕ) (c s : ℕ) (side : Side) (child x : ℕ) : Type 0 where
+  pub rep : (t : ℕ) → cutField K t ≡ c → (u w : Tree) → Rep K ks ls child u → Rep K ks ls (childAt ls s (otherOf side)) w → Rep K ks ls′ x (mend t (itemIn K ks s) (onSide side u w) (onSide side w u))
+  pub frame : (u w : Tree) → Rep K ks ls child u → Rep K ks ls (childAt ls s (otherOf side)) w → Frame K ks ks ls ls′ (slots (onSide side u w) ++ (s ∷ slots (onSide side w u)))
+
+-- a tree lies at s, a leaf at new, and no slot is there twice
+pub record Insertable (K : ℕ) (ks : List ℤ) (ls : List ℕ) (s new : ℕ) : Type 0 where
+  pub tree : Tree
+  pub rep : Rep K ks ls s tree
+  pub leaf : Rep K ks ls new (node (itemIn K ks new) nil nil)
+  pub once : Once-each (new ∷ slots tree)
+
+pub record Inserted (K : ℕ) (ks : List ℤ) (ls ls′ : List ℕ) (c s new x : ℕ) : Type 0 where
+  pub rep : (t : ℕ) → cutField K t ≡ c → (u : Tree) → Rep K ks ls s u → Rep K ks ls′ x (insert t (itemIn K ks new) u)
+  pub frame : (u : Tree) → Rep K ks ls s u → Frame K ks ks ls ls′ (new ∷ slots u)
+
+-- the leaf put in on a side of the node at s, which is mended
+pub record InsertedOn (K : ℕ) (ks : List ℤ) (ls ls′ : List ℕ) (c s : ℕ) (side : Side) (new x : ℕ) : Type 0 where
+  pub rep : (t : ℕ) → cutField K t ≡ c → (i : Item) (u w : Tree) → Rep K ks ls s (node i (onSide side u w) (onSide side w u))
+      → Rep K ks ls′ x (mend t i (onSide side (insert (suc t) (itemIn K ks new) u) w) (onSide side w (insert (suc t) (itemIn K ks new) u)))
+  pub frame : (u : Tree) → Rep K ks ls s u → Frame K ks ks ls ls′ (new ∷ slots u)
