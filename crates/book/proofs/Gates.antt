@@ -106,6 +106,12 @@ module _ (K C nk nl ns : ℕ) (g : Gate) (e : g ≡ told (gate (rows3 K C (fitti
       let d = both (eqb nk (K * C)) (eqb nl (3 * C)) (c .0) in
       record { kLow = leb-true 1 K (a .0); kHigh = leb-true K 4 (a .1); cLow = leb-true 1 C (b .0); cHigh = leb-true C 4096 (b .1); wide = eqb-true nk (K * C) (d .0); long = eqb-true nl (3 * C) (d .1) }
 
+-- and that the scratch is as long as there are slots
+pub scratch-fits : (K C nk nl ns : ℕ) → gate (rows3 K C (fitting K C nk nl ns)) ≡ none → ns ≡ C
+scratch-fits K C nk nl ns e =
+    let f = gate-none (rows3 K C (fitting K C nk nl ns)) e in
+    eqb-true ns C (both (eqb nk (K * C) && eqb nl (3 * C)) (eqb ns C) (not-false (fitting K C nk nl ns) (f .1 .1 .0)) .1)
+
 -- a call that is lent no scratch
 pub no-scratch : (K C : ℕ) (ks : List ℤ) (ls : List ℕ) → fitting K C (length ks) (length ls) C ≡ sized K C ks ls
 no-scratch K C ks ls = rw (eq-eqb C C refl) (right-true (sized K C ks ls))

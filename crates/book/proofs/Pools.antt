@@ -53,7 +53,7 @@ behind-open ((c, q) ∷ rows) more e = go c e (behind-open rows more)
     go false h f = f h
 
 -- the tree of a sound pool lies at its root, and has no more entries than there are slots
-rep-of : (h : Head) (ks : List ℤ) (ls : List ℕ) → length ls ≡ 3 * h .c → sound h ks ls ≡ true → Rep (h .k) ks ls (h .root) (bookOf h ks ls .tree)
+pub rep-of : (h : Head) (ks : List ℤ) (ls : List ℕ) → length ls ≡ 3 * h .c → sound h ks ls ≡ true → Rep (h .k) ks ls (h .root) (bookOf h ks ls .tree)
 unfolding sound bookOf
 rep-of h ks ls n e =
     let f : ℕ → Cell = cellOf (h .k) ks ls in
@@ -61,9 +61,12 @@ rep-of h ks ls n e =
     let t = laid-lies (h .c) (h .c) f (h .root) (fitting-fits h f b e .laidOk) in
     subst (λ (r : ℕ). Rep (h .k) ks ls r (b .tree)) (t .0) (lies-rep (h .k) (h .c) ks ls n (b .tree) (t .1) (t .2))
 
-few-of : (h : Head) (ks : List ℤ) (ls : List ℕ) → sound h ks ls ≡ true → h .n ≤ h .c
+pub few-of : (h : Head) (ks : List ℤ) (ls : List ℕ) → sound h ks ls ≡ true → h .n ≤ h .c
 unfolding sound
 few-of h ks ls e = let x = fitting-fits h (cellOf (h .k) ks ls) (bookOf h ks ls) e .total in omega arith
+
+pub ordered-of : (h : Head) (ks : List ℤ) (ls : List ℕ) → Is h ks ls (bookOf h ks ls) → ordered 0 (bookOf h ks ls .tree) ≡ true
+ordered-of h ks ls i = valid-inOrder (h .k) (h .c) (bookOf h ks ls) (i .valid) .order
 
 pub first-cut : (K : ℕ) → cutField K 0 ≡ 0
 unfolding cutField
@@ -117,7 +120,7 @@ module _ (h : Head) (ks : List ℤ) (ls : List ℕ) (ns : ℕ) where
     pool-distinct = ordered-distinct 0 (bookOf h ks ls .tree) (pool-is .valid .ordered)
 
     pub pool-ordered : ordered 0 (bookOf h ks ls .tree) ≡ true
-    pool-ordered = valid-inOrder (h .k) (h .c) (bookOf h ks ls) (pool-is .valid) .order
+    pool-ordered = ordered-of h ks ls pool-is
 
     pub pool-stands : Stands (h .k) ks ls (h .root) 0 (bookOf h ks ls .tree)
     pool-stands = record { depth = 0; cut = first-cut (h .k); rep = pool-rep; inOrder = pool-ordered }

@@ -1,3 +1,4 @@
 -- What the inner contracts of this crate cite; the public calls cite the model alone.
 pub mod Gates
+pub mod Changes
 pub mod Fresh

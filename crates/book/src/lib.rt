@@ -13,6 +13,7 @@ ghost use mathlib.Core.Path.{_≡_};
 ghost use Rattle.model.specs.Calls as calls;
 
 pub mod answer;
+pub mod change;
 pub mod fresh;
 pub mod gate;
 
@@ -119,4 +120,61 @@ pub fn nearest(head: Head, keys: &[i64], links: &[usize], query: Entry, steps: [
     }
     let e = cells::slot::entry_at(keys, Shape { k, c }, b.slot);
     answer::close(head, e, b.slot, b.distance)
+}
+
+// A new entry in the first free slot, and the upward check along its path.
+pub fn add(
+    head: Head,
+    keys: &mut [i64],
+    links: &mut [usize],
+    scratch: &mut [usize],
+    entry: Entry,
+) -> Answer
+    ensures answer { λ r. ⌜ r ≡ calls.add head (now (keys .entry)) (now (links .entry)) (now (scratch .entry)) entry .answer ⌝ }
+    ensures keys { λ _. ⌜ now (keys .exit) ≡ calls.add head (now (keys .entry)) (now (links .entry)) (now (scratch .entry)) entry .keys ⌝ }
+    ensures links { λ _. ⌜ now (links .exit) ≡ calls.add head (now (keys .entry)) (now (links .entry)) (now (scratch .entry)) entry .links ⌝ }
+    ensures scratch { λ _. ⌜ now (scratch .exit) ≡ calls.add head (now (keys .entry)) (now (links .entry)) (now (scratch .entry)) entry .scratch ⌝ }
+{
+    let c = head.c;
+    let g = gate::pool(head, keys, links, scratch.len());
+    if let Gate::Shut(why) = g {
+        return answer::refused(head, why);
+    }
+    if change::is_there(head, keys, links, entry) {
+        return answer::refused(head, Refusal::Present);
+    }
+    if head.n == c {
+        return answer::refused(head, Refusal::Full);
+    }
+    rank::gather::clear(scratch);
+    let mut spare = [0usize; 4096];
+    let after = change::add_one(head, keys, links, scratch, &mut spare[..c], entry);
+    answer::plain(Outcome::Done, after)
+}
+
+// One entry out, its replacement moved, and the upward check along the path of the leaf that goes.
+pub fn strike(
+    head: Head,
+    keys: &mut [i64],
+    links: &mut [usize],
+    scratch: &mut [usize],
+    entry: Entry,
+) -> Answer
+    ensures answer { λ r. ⌜ r ≡ calls.strikeOut head (now (keys .entry)) (now (links .entry)) (now (scratch .entry)) entry .answer ⌝ }
+    ensures keys { λ _. ⌜ now (keys .exit) ≡ calls.strikeOut head (now (keys .entry)) (now (links .entry)) (now (scratch .entry)) entry .keys ⌝ }
+    ensures links { λ _. ⌜ now (links .exit) ≡ calls.strikeOut head (now (keys .entry)) (now (links .entry)) (now (scratch .entry)) entry .links ⌝ }
+    ensures scratch { λ _. ⌜ now (scratch .exit) ≡ calls.strikeOut head (now (keys .entry)) (now (links .entry)) (now (scratch .entry)) entry .scratch ⌝ }
+{
+    let c = head.c;
+    let g = gate::pool(head, keys, links, scratch.len());
+    if let Gate::Shut(why) = g {
+        return answer::refused(head, why);
+    }
+    if !change::is_there(head, keys, links, entry) {
+        return answer::refused(head, Refusal::Missing);
+    }
+    rank::gather::clear(scratch);
+    let mut spare = [0usize; 4096];
+    let after = change::strike_one(head, keys, links, scratch, &mut spare[..c], entry);
+    answer::plain(Outcome::Done, after)
 }
