@@ -1,4 +1,5 @@
 -- What the inner contracts of this crate cite; the public calls cite the model alone.
 pub mod Gates
+pub mod Listing
 pub mod Changes
 pub mod Fresh

@@ -16,6 +16,7 @@ pub mod answer;
 pub mod change;
 pub mod fresh;
 pub mod gate;
+pub mod listing;
 
 // A fresh pool over whatever the memory held.
 pub fn start(k: usize, c: usize, keys: &mut [i64], links: &mut [usize]) -> Answer
@@ -86,6 +87,41 @@ pub fn count(head: Head, keys: &[i64], links: &[usize], bounds: [Bound; 4]) -> A
         0,
     );
     answer::counted(head, n)
+}
+
+// The entries of a box in listing order, K numbers each; room behind them is untouched.
+pub fn list(
+    head: Head,
+    keys: &[i64],
+    links: &[usize],
+    bounds: [Bound; 4],
+    room: &mut [i64],
+) -> Answer
+    ensures answer { λ r. ⌜ r ≡ calls.list head (now (keys .entry)) (now (links .entry)) bounds (now (room .entry)) .answer ⌝ }
+    ensures room { λ _. ⌜ now (room .exit) ≡ calls.list head (now (keys .entry)) (now (links .entry)) bounds (now (room .entry)) .room ⌝ }
+{
+    let k = head.k;
+    let c = head.c;
+    let g = gate::pool(head, keys, links, c);
+    if let Gate::Shut(why) = g {
+        return answer::refused(head, why);
+    }
+    let mut slots = [0usize; 4096];
+    let mut spare = [0usize; 4096];
+    let f = listing::fill(
+        keys,
+        links,
+        Shape { k, c },
+        head.root,
+        bounds,
+        &mut slots[..c],
+        &mut spare[..c],
+        room,
+    );
+    if f.fits {
+        return answer::counted(head, f.count);
+    }
+    answer::refused(head, Refusal::Room)
 }
 
 // The entry nearest a note, by steps; at a tie the first in listing order.
