@@ -1,0 +1,1 @@
+-- Nothing but the proofs of the doors.

@@ -1,0 +1,2 @@
+-- What the doors cite.
+pub mod Doors
