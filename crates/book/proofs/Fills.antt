@@ -2,9 +2,9 @@
 use mathlib.Core.Path.{_≡_, refl, sym, ap, _∙_}
 use mathlib.Core.Bool.{Bool, true, false, true≢false, false≢true}
 use mathlib.Core.List.{List, [], _∷_, _++_}
-use Prim.Native.Nat.{ℕ, _+_, _-_, _*_, _^_, _≤_, _<_}
+use Prim.Native.Nat.{ℕ, _-_, _*_, _^_, _≤_, _<_}
 use native.Mathlib.Omega.{arith}
-use native.Mathlib.Nat.{mul-suc, mul-zero, mul-le-mul, mod-eq-of-lt, zero-add}
+use native.Mathlib.Nat.{mul-suc, mul-zero, mul-le-mul, zero-add}
 use lib.ListN.{length, take, drop, length-append}
 use lib.Seq.{sets, sets-eq, length-take-le, take-at}
 use lib.IntN.{ℤ}
@@ -15,7 +15,7 @@ use Rattle.model.specs.declared.Shape.{Shape}
 use Rattle.model.specs.declared.Bound.{Bound}
 use Rattle.model.proofs.Lists.{Every, every-join}
 use Rattle.model.proofs.Strikes.{slots, slots-append}
-use Rattle.cells.specs.Slots.{leftAt, rightAt, numbersOf, Room}
+use Rattle.cells.specs.Slots.{leftAt, rightAt, Room}
 use Rattle.cells.specs.Memory.{Rep}
 use Rattle.cells.proofs.Slots.{numbers-long}
 use Rattle.ask.specs.Standing.{Stands, Standing}
@@ -25,7 +25,6 @@ use Rattle.ask.proofs.Walks.{keyed-in}
 use Rattle.rank.specs.Ranking.{itemsAt, InTable, InTables, Ranked}
 use Rattle.rank.proofs.Merging.{cut-here, ranked-in}
 use Rattle.book.specs.Listing.{numbersIn, rankedIn, FilledWith}
-use Rattle.book.specs.declared.listing.Filled.{Filled}
 
 -- each slot of a tree that lies in the tables is one of theirs
 pub rep-tables : (S : Shape) (ks : List ℤ) (ls : List ℕ) → Room S (length ks) (length ls) → (s : ℕ) (u : Tree) → Rep (S .k) ks ls s u → InTables (S .k) (length ks) (slots u)

@@ -9,7 +9,10 @@ pub mod Lists
 pub mod LookUps
 pub mod Nearby
 pub mod Pools
+pub mod Printing
+pub mod Prints
 pub mod Rooms
+pub mod Saves
 pub mod Starts
 pub mod Steps
 pub mod There

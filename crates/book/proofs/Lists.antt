@@ -3,8 +3,7 @@ use mathlib.Core.Path.{_≡_, refl, sym, ap, ap₂, _∙_}
 use mathlib.Core.Bool.{Bool, true, false}
 use mathlib.Core.List.{List, [], _∷_, _++_}
 use mathlib.Core.Option.{some}
-use Prim.Native.Nat.{ℕ, _*_, _≤_, _<_}
-use native.Mathlib.Omega.{arith}
+use Prim.Native.Nat.{ℕ, _*_, _≤_}
 use lib.Dec.{ltb}
 use lib.ListN.{length, take, drop}
 use lib.IntN.{ℤ}
@@ -24,11 +23,10 @@ use Rattle.model.specs.declared.Refusal.the-variants.{Room as NoRoom}
 use Rattle.model.specs.declared.Answer.{Answer}
 use Rattle.model.proofs.Gates.{gate-on, gate-off, checked-shut, checked-open}
 use Rattle.cells.specs.Slots.{numbersOf, Room}
-use Rattle.ask.specs.Standing.{Stands, Standing}
+use Rattle.ask.specs.Standing.{Standing}
 use Rattle.ask.specs.Boxes.{boxed, slotsIn}
 use Rattle.ask.proofs.Listed.{box-listing, box-count}
-use Rattle.rank.specs.Ranking.{itemAt, itemsAt, behind}
-use Rattle.rank.specs.Merge.{sortBy}
+use Rattle.rank.specs.Ranking.{itemsAt}
 use Rattle.rank.proofs.Merging.{rank-items, ranked-slots}
 use Rattle.rank.proofs.Shapes.{items-held}
 use Rattle.sound.specs.Parts.{shapeOf}

@@ -100,6 +100,23 @@ pub fn counted(head: Head, count: usize) -> Answer
     }
 }
 
+// The number of bytes of a text.
+pub fn wrote(head: Head, bytes: usize) -> Answer
+    ensures { λ r. ⌜ r ≡ answers.wrote head bytes ⌝ }
+{
+    Answer {
+        outcome: Outcome::Done,
+        head,
+        entry: Entry { f: [0i64; 4] },
+        slot: 0,
+        reads: 0,
+        distance: 0,
+        count: 0,
+        bytes,
+        line: 0,
+    }
+}
+
 // The first K numbers of an entry, 0 beyond them.
 pub fn cut_to(e: Entry, k: usize) -> Entry
     requires { ⌜ k ≤ 4 ⌝ }

@@ -17,6 +17,7 @@ pub mod change;
 pub mod fresh;
 pub mod gate;
 pub mod listing;
+pub mod saving;
 
 // A fresh pool over whatever the memory held.
 pub fn start(k: usize, c: usize, keys: &mut [i64], links: &mut [usize]) -> Answer
@@ -213,4 +214,32 @@ pub fn strike(
     let mut spare = [0usize; 4096];
     let after = change::strike_one(head, keys, links, scratch, &mut spare[..c], entry);
     answer::plain(Outcome::Done, after)
+}
+
+// The text of the book; room behind it is untouched.
+pub fn save(head: Head, keys: &[i64], links: &[usize], room: &mut [u8]) -> Answer
+    ensures answer { λ r. ⌜ r ≡ calls.save head (now (keys .entry)) (now (links .entry)) (now (room .entry)) .answer ⌝ }
+    ensures page { λ _. ⌜ now (room .exit) ≡ calls.save head (now (keys .entry)) (now (links .entry)) (now (room .entry)) .page ⌝ }
+{
+    let k = head.k;
+    let c = head.c;
+    let g = gate::pool(head, keys, links, c);
+    if let Gate::Shut(why) = g {
+        return answer::refused(head, why);
+    }
+    let mut slots = [0usize; 4096];
+    let mut spare = [0usize; 4096];
+    let p = saving::print(
+        keys,
+        links,
+        Shape { k, c },
+        head.root,
+        &mut slots[..c],
+        &mut spare[..c],
+        room,
+    );
+    if p.fits {
+        return answer::wrote(head, p.bytes);
+    }
+    answer::refused(head, Refusal::Room)
 }
