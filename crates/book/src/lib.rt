@@ -12,12 +12,12 @@ use model::Shape;
 ghost use mathlib.Core.Path.{_≡_};
 ghost use Rattle.model.specs.Calls as calls;
 
-pub mod answer;
-pub mod change;
-pub mod fresh;
+mod answer;
+mod change;
+mod fresh;
 pub mod gate;
-pub mod listing;
-pub mod saving;
+mod listing;
+mod saving;
 
 // A fresh pool over whatever the memory held.
 pub fn start(k: usize, c: usize, keys: &mut [i64], links: &mut [usize]) -> Answer
