@@ -31,10 +31,10 @@ use Rattle.rank.proofs.Merging.{rank-items, ranked-slots}
 use Rattle.rank.proofs.Shapes.{items-held}
 use Rattle.sound.specs.Parts.{shapeOf}
 use Rattle.book.specs.Gates.{told, pooled}
-use Rattle.book.specs.Listing.{numbersIn, rankedIn, FilledWith}
+use Rattle.desk.specs.Listing.{numbersIn, rankedIn, FilledWith}
 use Rattle.book.specs.declared.gate.Gate.{Gate}
 use Rattle.book.specs.declared.gate.Gate.the-variants.{Open, Shut}
-use Rattle.book.specs.declared.listing.Filled.{Filled}
+use Rattle.desk.specs.declared.listing.Filled.{Filled}
 use Rattle.book.proofs.Counts.{taken-long, reads-shut, reads-open}
 use Rattle.book.proofs.Pools.{behind-shut, behind-open, pool-room, pool-standing, pool-stands, pool-rep, pool-distinct}
 

@@ -1,39 +1,34 @@
 -- The gate with the pool judged: what it lets through, and what an open pool is.
-use mathlib.Core.Path.{_≡_, refl, sym, ap, subst, _∙_}
+use mathlib.Core.Path.{_≡_, refl, sym, ap, _∙_}
 use mathlib.Core.Option.{Option, none, some}
-use mathlib.Core.Bool.{Bool, true, false, not, _&&_}
+use mathlib.Core.Bool.{Bool, true, false, not}
 use mathlib.Core.List.{List, [], _∷_, _++_}
-use Prim.Native.Nat.{ℕ, _+_, _*_, _≤_, _<_}
+use Prim.Native.Nat.{ℕ, _+_}
 use native.Mathlib.Omega.{arith}
-use native.Mathlib.Nat.{zero-mod}
 use lib.ListN.{length}
 use lib.IntN.{ℤ}
 use borrow.Author.Tests.{not-false}
-use Rattle.model.specs.Entry.{cutField}
-use Rattle.model.specs.Tree.{Tree, items, size, ordered}
-use Rattle.model.specs.Book.{Book, Cell}
-use Rattle.model.specs.Pool.{cellOf, treeFrom, chainFrom, bookOf, sound}
-use Rattle.model.specs.Answer.{Row, gate, checked}
-use Rattle.model.specs.Gate.{rows3, sized, rows4}
+use Rattle.model.specs.Tree.{items, ordered}
+use Rattle.model.specs.Pool.{bookOf, sound}
+use Rattle.model.specs.Answer.{Row, gate}
+use Rattle.model.specs.Gate.{rows3, rows4}
 use Rattle.model.specs.declared.Head.{Head}
 use Rattle.model.specs.declared.Refusal.{Refusal}
 use Rattle.model.specs.declared.Refusal.the-variants.{Unsound}
-use Rattle.model.proofs.Gates.{gate-on, gate-off, checked-open, checked-shut}
-use Rattle.model.proofs.Laid.{laid-lies}
+use Rattle.model.proofs.Gates.{gate-on, gate-off}
 use Rattle.model.proofs.Listings.{items-length}
 use Rattle.model.proofs.Ranks.{Distinct}
 use Rattle.model.proofs.Adds.{ordered-distinct}
-use Rattle.model.proofs.Sounds.{fitting-fits, Is, sound-is}
-use Rattle.model.proofs.Exactly.{valid-inOrder}
+use Rattle.model.proofs.Sounds.{Is, sound-is}
 use Rattle.cells.specs.Slots.{Room}
 use Rattle.cells.specs.Memory.{Rep}
-use Rattle.cells.proofs.Reps.{lies-rep}
 use Rattle.ask.specs.Standing.{Stands, Standing}
 use Rattle.sound.specs.Parts.{shapeOf}
 use Rattle.book.specs.Gates.{told, fitting, pooled}
 use Rattle.book.specs.declared.gate.Gate.{Gate}
 use Rattle.book.specs.declared.gate.Gate.the-variants.{Open, Shut}
 use Rattle.book.proofs.Gates.{told-open, told-shut, no-scratch, room}
+use Rattle.desk.proofs.Held.{rep-of, few-of, ordered-of, first-cut}
 
 -- rows behind rows
 pub behind-shut : (rows more : List Row) (r : Refusal) → gate rows ≡ some r → gate (rows ++ more) ≡ some r
@@ -51,26 +46,6 @@ behind-open ((c, q) ∷ rows) more e = go c e (behind-open rows more)
     go : (o : Bool) → gate ((o, q) ∷ rows) ≡ none → (gate rows ≡ none → gate (rows ++ more) ≡ gate more) → gate ((o, q) ∷ (rows ++ more)) ≡ gate more
     go true h f = let z : _≡_ {A = ℕ} 0 1 = cc in absurd (omega arith)
     go false h f = f h
-
--- the tree of a sound pool lies at its root, and has no more entries than there are slots
-pub rep-of : (h : Head) (ks : List ℤ) (ls : List ℕ) → length ls ≡ 3 * h .c → sound h ks ls ≡ true → Rep (h .k) ks ls (h .root) (bookOf h ks ls .tree)
-unfolding sound bookOf
-rep-of h ks ls n e =
-    let f : ℕ → Cell = cellOf (h .k) ks ls in
-    let b : Book = record { tree = treeFrom (h .c) f (h .root); chain = chainFrom (h .c) f (h .free) } in
-    let t = laid-lies (h .c) (h .c) f (h .root) (fitting-fits h f b e .laidOk) in
-    subst (λ (r : ℕ). Rep (h .k) ks ls r (b .tree)) (t .0) (lies-rep (h .k) (h .c) ks ls n (b .tree) (t .1) (t .2))
-
-pub few-of : (h : Head) (ks : List ℤ) (ls : List ℕ) → sound h ks ls ≡ true → h .n ≤ h .c
-unfolding sound
-few-of h ks ls e = let x = fitting-fits h (cellOf (h .k) ks ls) (bookOf h ks ls) e .total in omega arith
-
-pub ordered-of : (h : Head) (ks : List ℤ) (ls : List ℕ) → Is h ks ls (bookOf h ks ls) → ordered 0 (bookOf h ks ls .tree) ≡ true
-ordered-of h ks ls i = valid-inOrder (h .k) (h .c) (bookOf h ks ls) (i .valid) .order
-
-pub first-cut : (K : ℕ) → cutField K 0 ≡ 0
-unfolding cutField
-first-cut K = zero-mod K
 
 module _ (h : Head) (ks : List ℤ) (ls : List ℕ) (ns : ℕ) where
   abbrev front : List Row

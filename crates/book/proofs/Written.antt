@@ -24,7 +24,7 @@ use Rattle.model.specs.declared.Outcome.the-variants.{Done}
 use Rattle.model.specs.declared.Answer.{Answer}
 use Rattle.model.proofs.Backs.{is-head}
 use Rattle.model.proofs.Gates.{gate-on, gate-off, checked-shut, checked-open}
-use Rattle.book.specs.Changes.{Sound, Became}
+use Rattle.desk.specs.Changes.{Sound, Became}
 use Rattle.book.specs.Gates.{told, pooled}
 use Rattle.book.specs.declared.gate.Gate.{Gate}
 use Rattle.book.specs.declared.gate.Gate.the-variants.{Open, Shut}

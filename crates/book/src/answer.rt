@@ -5,8 +5,6 @@ use model::Head;
 use model::Outcome;
 use model::Refusal;
 ghost use mathlib.Core.Path.{_≡_};
-ghost use Prim.Native.Nat.{_≤_};
-ghost use lib.ListN.{take};
 ghost use Rattle.model.specs.Answer as answers;
 ghost use Rattle.model.specs.Entry as entries;
 
@@ -115,13 +113,4 @@ pub fn wrote(head: Head, bytes: usize) -> Answer
         bytes,
         line: 0,
     }
-}
-
-// The first K numbers of an entry, 0 beyond them.
-pub fn cut_to(e: Entry, k: usize) -> Entry
-    requires { ⌜ k ≤ 4 ⌝ }
-    ensures { λ r. ⌜ r ≡ answers.outward (take k (e .f)) ⌝ }
-{
-    let f = e.f;
-    cells::slot::entry_of(&f[..k])
 }

@@ -3,10 +3,7 @@ use model::Head;
 use model::Refusal;
 ghost use mathlib.Core.Path.{_≡_};
 ghost use Rattle.model.specs.Answer.{gate};
-ghost use Prim.Native.Nat.{_≤_};
-ghost use lib.ListN.{take};
 ghost use Rattle.model.specs.Gate.{rows3};
-ghost use Rattle.model.specs.Calls.{anyZero};
 ghost use Rattle.book.specs.Gates.{told, fitting, pooled};
 
 // Whether a call is let in.
@@ -58,19 +55,4 @@ pub fn pool(head: Head, keys: &[i64], links: &[usize], scratch: usize) -> Gate
             }
         }
     }
-}
-
-// Whether one of the first k steps is 0.
-pub fn zero_step(steps: [u64; 4], k: usize) -> bool
-    requires { ⌜ k ≤ 4 ⌝ }
-    ensures { λ r. ⌜ r ≡ anyZero (take k steps) ⌝ }
-{
-    let mut i: usize = 0;
-    while i < k {
-        if steps[i] == 0 {
-            return true;
-        }
-        i += 1;
-    }
-    false
 }

@@ -12,12 +12,8 @@ use model::Shape;
 ghost use mathlib.Core.Path.{_≡_};
 ghost use Rattle.model.specs.Calls as calls;
 
-mod answer;
-mod change;
-mod fresh;
+pub mod answer;
 pub mod gate;
-mod listing;
-mod saving;
 
 // A fresh pool over whatever the memory held.
 pub fn start(k: usize, c: usize, keys: &mut [i64], links: &mut [usize]) -> Answer
@@ -36,8 +32,8 @@ pub fn start(k: usize, c: usize, keys: &mut [i64], links: &mut [usize]) -> Answe
         };
         return answer::refused(none, why);
     }
-    fresh::clear_numbers(keys);
-    fresh::chain_up(links, c);
+    desk::fresh::clear_numbers(keys);
+    desk::fresh::chain_up(links, c);
     let head = Head {
         k,
         c,
@@ -60,7 +56,7 @@ pub fn look_up(head: Head, keys: &[i64], links: &[usize], entry: Entry) -> Answe
     }
     let w = ask::walk::walk_down(Shape { k, c }, head.root, entry, keys, links);
     match w {
-        Walk::Found(slot, reads) => answer::met(head, answer::cut_to(entry, k), slot, reads),
+        Walk::Found(slot, reads) => answer::met(head, desk::cut::cut_to(entry, k), slot, reads),
         Walk::Gone(reads) => answer::unmet(head, reads),
         Walk::Astray => answer::refused(head, Refusal::Unsound),
     }
@@ -109,7 +105,7 @@ pub fn list(
     }
     let mut slots = [0usize; 4096];
     let mut spare = [0usize; 4096];
-    let f = listing::fill(
+    let f = desk::listing::fill(
         keys,
         links,
         Shape { k, c },
@@ -135,7 +131,7 @@ pub fn nearest(head: Head, keys: &[i64], links: &[usize], query: Entry, steps: [
     if let Gate::Shut(why) = g {
         return answer::refused(head, why);
     }
-    if gate::zero_step(steps, k) {
+    if desk::step::zero_step(steps, k) {
         return answer::refused(head, Refusal::Step);
     }
     let none = Best {
@@ -177,7 +173,7 @@ pub fn add(
     if let Gate::Shut(why) = g {
         return answer::refused(head, why);
     }
-    if change::is_there(head, keys, links, entry) {
+    if desk::change::is_there(head, keys, links, entry) {
         return answer::refused(head, Refusal::Present);
     }
     if head.n == c {
@@ -185,7 +181,7 @@ pub fn add(
     }
     rank::gather::clear(scratch);
     let mut spare = [0usize; 4096];
-    let after = change::add_one(head, keys, links, scratch, &mut spare[..c], entry);
+    let after = desk::change::add_one(head, keys, links, scratch, &mut spare[..c], entry);
     answer::plain(Outcome::Done, after)
 }
 
@@ -207,12 +203,12 @@ pub fn strike(
     if let Gate::Shut(why) = g {
         return answer::refused(head, why);
     }
-    if !change::is_there(head, keys, links, entry) {
+    if !desk::change::is_there(head, keys, links, entry) {
         return answer::refused(head, Refusal::Missing);
     }
     rank::gather::clear(scratch);
     let mut spare = [0usize; 4096];
-    let after = change::strike_one(head, keys, links, scratch, &mut spare[..c], entry);
+    let after = desk::change::strike_one(head, keys, links, scratch, &mut spare[..c], entry);
     answer::plain(Outcome::Done, after)
 }
 
@@ -229,7 +225,7 @@ pub fn save(head: Head, keys: &[i64], links: &[usize], room: &mut [u8]) -> Answe
     }
     let mut slots = [0usize; 4096];
     let mut spare = [0usize; 4096];
-    let p = saving::print(
+    let p = desk::saving::print(
         keys,
         links,
         Shape { k, c },

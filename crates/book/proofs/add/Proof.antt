@@ -2,7 +2,8 @@ use mathlib.Core.Path.{_≡_, sym, ap, _∙_}
 use native.Mathlib.Omega.{arith}
 use lib.ListN.{length, replicate}
 use Rattle.book.proofs.Counts.{taken-long}
-use Rattle.book.proofs.Pools.{pool-room, few-of}
+use Rattle.desk.proofs.Held.{few-of}
+use Rattle.book.proofs.Pools.{pool-room}
 use Rattle.book.proofs.Written.{sound-pool, scratch-long, not-full, add-shut, add-present, add-full, add-done}
 use borrow.Author.Needs.{needs}
 use Rattle.book.proofs.add.Statement.{statement}
@@ -11,8 +12,8 @@ use Rattle.book.proofs.add.Reads as reads
 use Rattle.book.proofs.add.Lts as lts
 use Rattle.book.proofs.answer.plain.Reads as plain-reads
 use Rattle.book.proofs.answer.refused.Reads as refused-reads
-use Rattle.book.proofs.change.add_one.Reads as add-one-reads
-use Rattle.book.proofs.change.is_there.Reads as is-there-reads
+use Rattle.desk.proofs.change.add_one.Reads as add-one-reads
+use Rattle.desk.proofs.change.is_there.Reads as is-there-reads
 use Rattle.book.proofs.gate.pool.Reads as pool-reads
 use Rattle.rank.proofs.gather.clear.Reads as clear-reads
 

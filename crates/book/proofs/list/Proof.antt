@@ -9,7 +9,7 @@ use Rattle.book.proofs.list.Lts as lts
 use Rattle.book.proofs.answer.counted.Reads as counted-reads
 use Rattle.book.proofs.answer.refused.Reads as refused-reads
 use Rattle.book.proofs.gate.pool.Reads as pool-reads
-use Rattle.book.proofs.listing.fill.Reads as fill-reads
+use Rattle.desk.proofs.listing.fill.Reads as fill-reads
 
 pool-requires : tie.Need-pool-requires
 pool-requires c κs = search needs

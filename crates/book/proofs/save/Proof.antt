@@ -10,7 +10,7 @@ use Rattle.book.proofs.save.Lts as lts
 use Rattle.book.proofs.answer.refused.Reads as refused-reads
 use Rattle.book.proofs.answer.wrote.Reads as wrote-reads
 use Rattle.book.proofs.gate.pool.Reads as pool-reads
-use Rattle.book.proofs.saving.print.Reads as print-reads
+use Rattle.desk.proofs.saving.print.Reads as print-reads
 
 pool-requires : tie.Need-pool-requires
 pool-requires c κs = search needs

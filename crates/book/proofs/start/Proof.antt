@@ -8,8 +8,8 @@ use Rattle.book.proofs.start.Reads as reads
 use Rattle.book.proofs.start.Lts as lts
 use Rattle.book.proofs.answer.plain.Reads as plain-reads
 use Rattle.book.proofs.answer.refused.Reads as refused-reads
-use Rattle.book.proofs.fresh.chain_up.Reads as chain-up-reads
-use Rattle.book.proofs.fresh.clear_numbers.Reads as clear-numbers-reads
+use Rattle.desk.proofs.fresh.chain_up.Reads as chain-up-reads
+use Rattle.desk.proofs.fresh.clear_numbers.Reads as clear-numbers-reads
 use Rattle.book.proofs.gate.sizes.Reads as sizes-reads
 
 sizes-requires : tie.Need-sizes-requires

@@ -1,0 +1,5 @@
+-- What the contracts of this crate cite.
+pub mod Changes
+pub mod Fresh
+pub mod Listing
+pub mod Saving

@@ -1,0 +1,7 @@
+// The work behind the calls, each part on what its caller has made sure of.
+pub mod change;
+pub mod cut;
+pub mod fresh;
+pub mod listing;
+pub mod saving;
+pub mod step;
