@@ -7,4 +7,5 @@ pub mod Nearby
 pub mod Pools
 pub mod Saves
 pub mod Starts
+pub mod TakesIn
 pub mod Written

@@ -35,10 +35,10 @@ use Rattle.book.proofs.Pools.{behind-shut, behind-open, all-open, pool-
 abbrev pub Leaves : After → Answer → List ℤ → List ℕ → List ℕ → Type 0
 Leaves a r ks ls sc = (r ≡ a .answer) × ((ks ≡ a .keys) × ((ls ≡ a .links) × (sc ≡ a .scratch)))
 
-leaves-shut : (a : After) (h : Head) (ks : List ℤ) (ls sc : List ℕ) (r : Refusal) (x : Answer) → a ≡ leaving (refused h 0 r) ks ls sc → x ≡ refused h 0 r → Leaves a x ks ls sc
-leaves-shut a h ks ls sc r x e f = (f ∙ sym (ap (λ (z : After). z .answer) e), (sym (ap (λ (z : After). z .keys) e), (sym (ap (λ (z : After). z .links) e), sym (ap (λ (z : After). z .scratch) e))))
+pub leaves-shut : (a : After) (h : Head) (l : ℕ) (ks : List ℤ) (ls sc : List ℕ) (r : Refusal) (x : Answer) → a ≡ leaving (refused h l r) ks ls sc → x ≡ refused h l r → Leaves a x ks ls sc
+leaves-shut a h l ks ls sc r x e f = (f ∙ sym (ap (λ (z : After). z .answer) e), (sym (ap (λ (z : After). z .keys) e), (sym (ap (λ (z : After). z .links) e), sym (ap (λ (z : After). z .scratch) e))))
 
-leaves-done : (a : After) (h r : Head) (b : Book) (ks : List ℤ) (ls sc : List ℕ) (x : Answer) → a ≡ writing h b → Became h ks ls b r → x ≡ plain Done r → sc ≡ replicate (h .c) 0 → Leaves a x ks ls sc
+pub leaves-done : (a : After) (h r : Head) (b : Book) (ks : List ℤ) (ls sc : List ℕ) (x : Answer) → a ≡ writing h b → Became h ks ls b r → x ≡ plain Done r → sc ≡ replicate (h .c) 0 → Leaves a x ks ls sc
 leaves-done a h r b ks ls sc x e w f z =
     let m : headOf (r .k) (r .c) b ≡ headOf (h .k) (h .c) b = λ i. headOf (w .k i) (w .c i) b in
     let k : keys (r .k) (r .c) b ≡ keys (h .k) (h .c) b = λ i. keys (w .k i) (w .c i) b in
@@ -46,6 +46,17 @@ leaves-done a h r b ks ls sc x e w f z =
       f ∙ ap (plain Done) (is-head r ks ls b (w .is) ∙ m) ∙ sym (ap (λ (z : After). z .answer) e),
       (sym (w .is .sameKeys) ∙ k ∙ sym (ap (λ (z : After). z .keys) e), (sym (w .is .sameLinks) ∙ l ∙ sym (ap (λ (z : After). z .links) e), z ∙ sym (ap (λ (z : After). z .scratch) e))),
     )
+
+-- what an open gate tells
+module _ (h : Head) (ks : List ℤ) (ls sc : List ℕ) (g : Gate) (is : g ≡ told (gate (pooled h ks ls (length sc)))) where
+  pub sound-pool : g ≡ Open → Sound h ks ls
+  sound-pool o = record { room = pool-room h ks ls (length sc) g is o; good = is-sound h ks ls (length sc) g is o }
+
+  pub scratch-long : g ≡ Open → length sc ≡ h .c
+  scratch-long o = scratch-fits (h .k) (h .c) (length ks) (length ls) (length sc) (front-open h ks ls (length sc) g is o)
+
+  pub rows-past : g ≡ Open → (more : List Row) → gate (rows4s h ks ls sc ++ more) ≡ gate more
+  rows-past o more = behind-open (rows4s h ks ls sc) more (all-open h ks ls (length sc) g is o)
 
 module _ (h : Head) (ks : List ℤ) (ls sc : List ℕ) (e : Four) (g : Gate) (is : g ≡ told (gate (pooled h ks ls (length sc)))) where
   abbrev b : Book
@@ -60,19 +71,13 @@ module _ (h : Head) (ks : List ℤ) (ls sc : List ℕ) (e : Four) (g : Gate) (is
   abbrev strikeRows : List Row
   strikeRows = (not there, Missing) ∷ []
 
-  pub sound-pool : g ≡ Open → Sound h ks ls
-  sound-pool o = record { room = pool-room h ks ls (length sc) g is o; good = is-sound h ks ls (length sc) g is o }
-
-  pub scratch-long : g ≡ Open → length sc ≡ h .c
-  scratch-long o = scratch-fits (h .k) (h .c) (length ks) (length ls) (length sc) (front-open h ks ls (length sc) g is o)
-
   add-refuses : (r : Refusal) → gate (rows4s h ks ls sc ++ addRows) ≡ some r → (x : Answer) → x ≡ refused h 0 r → Leaves (add h ks ls sc e) x ks ls sc
   unfolding add
-  add-refuses r q x f = leaves-shut (add h ks ls sc e) h ks ls sc r x (checked-shut (rows4s h ks ls sc ++ addRows) (λ r. leaving (refused h 0 r) ks ls sc) (writing h (added (inward (h .k) e) b)) r q) f
+  add-refuses r q x f = leaves-shut (add h ks ls sc e) h 0 ks ls sc r x (checked-shut (rows4s h ks ls sc ++ addRows) (λ r. leaving (refused h 0 r) ks ls sc) (writing h (added (inward (h .k) e) b)) r q) f
 
   strike-refuses : (r : Refusal) → gate (rows4s h ks ls sc ++ strikeRows) ≡ some r → (x : Answer) → x ≡ refused h 0 r → Leaves (strikeOut h ks ls sc e) x ks ls sc
   unfolding strikeOut
-  strike-refuses r q x f = leaves-shut (strikeOut h ks ls sc e) h ks ls sc r x (checked-shut (rows4s h ks ls sc ++ strikeRows) (λ r. leaving (refused h 0 r) ks ls sc) (writing h (struck (inward (h .k) e) b)) r q) f
+  strike-refuses r q x f = leaves-shut (strikeOut h ks ls sc e) h 0 ks ls sc r x (checked-shut (rows4s h ks ls sc ++ strikeRows) (λ r. leaving (refused h 0 r) ks ls sc) (writing h (struck (inward (h .k) e) b)) r q) f
 
   pub add-shut : (r : Refusal) → g ≡ Shut r → (x : Answer) → x ≡ refused h 0 r → Leaves (add h ks ls sc e) x ks ls sc
   add-shut r q = add-refuses r (behind-shut (rows4s h ks ls sc) addRows r (pool-refuses h ks ls (length sc) g is r q))
@@ -82,7 +87,7 @@ module _ (h : Head) (ks : List ℤ) (ls sc : List ℕ) (e : Four) (g : Gate) (is
 
   module _ (o : g ≡ Open) (z : Bool) (zs : z ≡ there) where
     past : (more : List Row) → gate (rows4s h ks ls sc ++ more) ≡ gate more
-    past more = behind-open (rows4s h ks ls sc) more (all-open h ks ls (length sc) g is o)
+    past = rows-past h ks ls sc g is o
 
     pub add-present : z ≡ true → (x : Answer) → x ≡ refused h 0 Present → Leaves (add h ks ls sc e) x ks ls sc
     add-present t = add-refuses Present (past addRows ∙ gate-on there Present ((eqb (h .n) (h .c), Full) ∷ []) (sym zs ∙ t))

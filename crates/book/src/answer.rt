@@ -7,6 +7,7 @@ use model::Refusal;
 ghost use mathlib.Core.Path.{_≡_};
 ghost use Rattle.model.specs.Answer as answers;
 ghost use Rattle.model.specs.Entry as entries;
+ghost use Rattle.model.specs.declared.Refusal.the-variants.{Text};
 
 pub fn plain(outcome: Outcome, head: Head) -> Answer
     ensures { λ r. ⌜ r ≡ answers.plain outcome head ⌝ }
@@ -29,6 +30,23 @@ pub fn refused(head: Head, why: Refusal) -> Answer
     ensures { λ r. ⌜ r ≡ answers.refused head 0 why ⌝ }
 {
     plain(Outcome::Refused(why), head)
+}
+
+// Refusal 9 tells the line of the text too.
+pub fn broken(head: Head, line: usize) -> Answer
+    ensures { λ r. ⌜ r ≡ answers.refused head line Text ⌝ }
+{
+    Answer {
+        outcome: Outcome::Refused(Refusal::Text),
+        head,
+        entry: Entry { f: [0i64; 4] },
+        slot: 0,
+        reads: 0,
+        distance: 0,
+        count: 0,
+        bytes: 0,
+        line,
+    }
 }
 
 // A found entry, its numbers already 0 beyond the fields.

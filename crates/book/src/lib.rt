@@ -9,6 +9,7 @@ use model::Head;
 use model::Outcome;
 use model::Refusal;
 use model::Shape;
+use text::Saved;
 ghost use mathlib.Core.Path.{_≡_};
 ghost use Rattle.model.specs.Calls as calls;
 
@@ -238,4 +239,49 @@ pub fn save(head: Head, keys: &[i64], links: &[usize], room: &mut [u8]) -> Answe
         return answer::wrote(head, p.bytes);
     }
     answer::refused(head, Refusal::Room)
+}
+
+// A saved text, whole or not at all: what is not yet there is added in text order, and nothing is struck.
+pub fn take_in(
+    head: Head,
+    keys: &mut [i64],
+    links: &mut [usize],
+    scratch: &mut [usize],
+    text: &[u8],
+) -> Answer
+    ensures answer { λ r. ⌜ r ≡ calls.takeIn head (now (keys .entry)) (now (links .entry)) (now (scratch .entry)) (now (text .entry)) .answer ⌝ }
+    ensures keys { λ _. ⌜ now (keys .exit) ≡ calls.takeIn head (now (keys .entry)) (now (links .entry)) (now (scratch .entry)) (now (text .entry)) .keys ⌝ }
+    ensures links { λ _. ⌜ now (links .exit) ≡ calls.takeIn head (now (keys .entry)) (now (links .entry)) (now (scratch .entry)) (now (text .entry)) .links ⌝ }
+    ensures scratch { λ _. ⌜ now (scratch .exit) ≡ calls.takeIn head (now (keys .entry)) (now (links .entry)) (now (scratch .entry)) (now (text .entry)) .scratch ⌝ }
+{
+    let k = head.k;
+    let c = head.c;
+    let g = gate::pool(head, keys, links, scratch.len());
+    if let Gate::Shut(why) = g {
+        return answer::refused(head, why);
+    }
+    match text::take_apart(text) {
+        Saved::Broken(line) => answer::broken(head, line),
+        Saved::Book(fields, lines) => {
+            if fields != k {
+                return answer::refused(head, Refusal::Mismatch);
+            }
+            let new = desk::taking::count_new(head, keys, links, text, lines);
+            if c - head.n < new {
+                return answer::refused(head, Refusal::Full);
+            }
+            rank::gather::clear(scratch);
+            let mut spare = [0usize; 4096];
+            let after = desk::taking::put_all(
+                head,
+                keys,
+                links,
+                scratch,
+                &mut spare[..c],
+                text,
+                lines,
+            );
+            answer::plain(Outcome::Done, after)
+        }
+    }
 }

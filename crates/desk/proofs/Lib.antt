@@ -9,4 +9,5 @@ pub mod Printing
 pub mod Prints
 pub mod Rooms
 pub mod Steps
+pub mod TakesIn
 pub mod There

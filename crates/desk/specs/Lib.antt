@@ -3,3 +3,4 @@ pub mod Changes
 pub mod Fresh
 pub mod Listing
 pub mod Saving
+pub mod Taking

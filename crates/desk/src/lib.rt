@@ -5,3 +5,4 @@ pub mod fresh;
 pub mod listing;
 pub mod saving;
 pub mod step;
+pub mod taking;

@@ -3,7 +3,7 @@ use mathlib.Core.Path.{_≡_, refl, sym, ap, _∙_}
 use mathlib.Core.List.{List, [], _∷_}
 use mathlib.Core.Option.{none}
 use mathlib.Core.Bool.{Bool, true, false}
-use Prim.Native.Nat.{ℕ, suc, _+_, _≤_}
+use Prim.Native.Nat.{ℕ, suc, _+_, _≤_, _<_}
 use native.Mathlib.Omega.{arith}
 use lib.ListN.{length}
 use Rattle.model.specs.Ask.{has, newOf}
@@ -41,19 +41,58 @@ new-same a b (e ∷ es) (h, hs) = go (has e b) refl (new-same a b es hs)
     go true q ih = rw (h, q, newOf) ih
     go false q ih = rw (h, q, newOf) (ap (λ y. e ∷ y) ih)
 
-new-there : (held : List Entry) (e : Entry) (es : List Entry) → has e held ≡ true → newOf held (e ∷ es) ≡ newOf held es
+pub new-there : (held : List Entry) (e : Entry) (es : List Entry) → has e held ≡ true → newOf held (e ∷ es) ≡ newOf held es
 new-there held e es q = rw (q, newOf) refl
 
-new-not : (held : List Entry) (e : Entry) (es : List Entry) → has e held ≡ false → newOf held (e ∷ es) ≡ e ∷ newOf held es
+pub new-not : (held : List Entry) (e : Entry) (es : List Entry) → has e held ≡ false → newOf held (e ∷ es) ≡ e ∷ newOf held es
 new-not held e es q = rw (q, newOf) refl
 
-each-there : (e : Entry) (es : List Entry) (b : Book) → has e (listing (b .tree)) ≡ true → addedEach (e ∷ es) b ≡ addedEach es b
+pub each-there : (e : Entry) (es : List Entry) (b : Book) → has e (listing (b .tree)) ≡ true → addedEach (e ∷ es) b ≡ addedEach es b
 each-there e es b q = rw (q, addedEach) refl
 
-each-not : (e : Entry) (es : List Entry) (b : Book) → has e (listing (b .tree)) ≡ false → addedEach (e ∷ es) b ≡ addedEach es (added e b)
+pub each-not : (e : Entry) (es : List Entry) (b : Book) → has e (listing (b .tree)) ≡ false → addedEach (e ∷ es) b ≡ addedEach es (added e b)
 each-not e es b q = rw (q, addedEach) refl
 
-each-same : (K C : ℕ) (es : List Entry) (b : Book) → Valid K C b → Every (λ e. length e ≡ K) es → Once-each es → size (b .tree) + length (newOf (listing (b .tree)) es) ≤ C → addedAll (newOf (listing (b .tree)) es) b ≡ addedEach es b
+-- an entry that is put in is new no more, and leaves the others as they were
+put-new : (K C : ℕ) (e : Entry) (es : List Entry) (b : Book) → Valid K C b → length e ≡ K → Every (λ y. ¬ (e ≡ y)) es → has e (listing (b .tree)) ≡ false → size (b .tree) < C
+    → Valid K C (added e b) × (newOf (listing (added e b .tree)) es ≡ newOf (listing (b .tree)) es) × (size (added e b .tree) ≡ suc (size (b .tree)))
+put-new K C e es b v n o q h =
+    let u = has-false e (listing (b .tree)) q in
+    let x = more K C b e v n u h in
+    let l0 : length (listing (b .tree)) ≡ size (b .tree) = listing-length (b .tree) in
+    let l1 : length (listing (added e b .tree)) ≡ size (added e b .tree) = listing-length (added e b .tree) in
+    let l2 : length (listing (added e b .tree)) ≡ suc (length (listing (b .tree))) = ap length (x .1) ∙ within-length e (listing (b .tree)) u in (
+      x .0,
+      new-same (listing (added e b .tree)) (listing (b .tree)) es (every-map (λ y. ¬ (e ≡ y)) (λ y. has y (listing (added e b .tree)) ≡ has y (listing (b .tree))) (λ y z. rw (x .1) (has-other y e (listing (b .tree)) (λ w. z (sym w)))) es o),
+      (let r : size (added e b .tree) ≡ suc (size (b .tree)) = omega arith in r),
+    )
+
+-- the first line, and then the others: they still fit
+pub each-first : (e : Entry) (es : List Entry) (b : Book) → addedEach (e ∷ es) b ≡ addedEach es (addedEach (e ∷ []) b)
+each-first e es b = go (has e (listing (b .tree))) refl
+  where
+    go : (x : Bool) → has e (listing (b .tree)) ≡ x → addedEach (e ∷ es) b ≡ addedEach es (addedEach (e ∷ []) b)
+    go true q = each-there e es b q ∙ ap (addedEach es) (sym (each-there e [] b q))
+    go false q = each-not e es b q ∙ ap (addedEach es) (sym (each-not e [] b q))
+
+pub each-fits : (K C : ℕ) (e : Entry) (es : List Entry) (b : Book) → Valid K C b → length e ≡ K → Every (λ y. ¬ (e ≡ y)) es → size (b .tree) + length (newOf (listing (b .tree)) (e ∷ es)) ≤ C
+    → Valid K C (addedEach (e ∷ []) b) × (size (addedEach (e ∷ []) b .tree) + length (newOf (listing (addedEach (e ∷ []) b .tree)) es) ≤ C)
+each-fits K C e es b v n o h = go (has e (listing (b .tree))) refl
+  where
+    go : (x : Bool) → has e (listing (b .tree)) ≡ x → Valid K C (addedEach (e ∷ []) b) × (size (addedEach (e ∷ []) b .tree) + length (newOf (listing (addedEach (e ∷ []) b .tree)) es) ≤ C)
+    go true q = rw (each-there e [] b q) (v, (rw (new-there (listing (b .tree)) e es q) at h))
+    go false q =
+        let k : size (b .tree) + suc (length (newOf (listing (b .tree)) es)) ≤ C = rw (new-not (listing (b .tree)) e es q) at h in
+        let x = put-new K C e es b v n o q (omega arith) in
+        let s = ap length (x .1) in
+        let l = x .2 in
+        rw (each-not e [] b q) (x .0, (let r : size (added e b .tree) + length (newOf (listing (added e b .tree)) es) ≤ C = omega arith in r))
+
+-- an entry that is new finds a free slot
+pub each-room : (C : ℕ) (e : Entry) (es : List Entry) (b : Book) → size (b .tree) + length (newOf (listing (b .tree)) (e ∷ es)) ≤ C → has e (listing (b .tree)) ≡ false → size (b .tree) < C
+each-room C e es b h q = let k : size (b .tree) + suc (length (newOf (listing (b .tree)) es)) ≤ C = rw (new-not (listing (b .tree)) e es q) at h in omega arith
+
+pub each-same : (K C : ℕ) (es : List Entry) (b : Book) → Valid K C b → Every (λ e. length e ≡ K) es → Once-each es → size (b .tree) + length (newOf (listing (b .tree)) es) ≤ C → addedAll (newOf (listing (b .tree)) es) b ≡ addedEach es b
 each-same K C [] b v n o h = refl
 each-same K C (e ∷ es) b v (n, ns) (o, os) h = go (has e (listing (b .tree))) refl (each-same K C es b v ns os) (λ w k. each-same K C es (added e b) w ns os k)
   where
@@ -67,13 +106,10 @@ each-same K C (e ∷ es) b v (n, ns) (o, os) h = go (has e (listing (b .tree))) 
     go false q f g =
         let t = new-not (listing (b .tree)) e es q in
         let k : size (b .tree) + suc (length (newOf (listing (b .tree)) es)) ≤ C = rw t at h in
-        let u = has-false e (listing (b .tree)) q in
-        let x = more K C b e v n u (omega arith) in
-        let s : newOf (listing (added e b .tree)) es ≡ newOf (listing (b .tree)) es = new-same (listing (added e b .tree)) (listing (b .tree)) es (every-map (λ y. ¬ (e ≡ y)) (λ y. has y (listing (added e b .tree)) ≡ has y (listing (b .tree))) (λ y z. rw (x .1) (has-other y e (listing (b .tree)) (λ w. z (sym w)))) es o) in
-        let l0 : length (listing (b .tree)) ≡ size (b .tree) = listing-length (b .tree) in
-        let l1 : length (listing (added e b .tree)) ≡ size (added e b .tree) = listing-length (added e b .tree) in
-        let l2 : length (listing (added e b .tree)) ≡ suc (length (listing (b .tree))) = ap length (x .1) ∙ within-length e (listing (b .tree)) u in
-        let l3 : length (newOf (listing (added e b .tree)) es) ≡ length (newOf (listing (b .tree)) es) = ap length s in
+        let x = put-new K C e es b v n o q (omega arith) in
+        let s = x .1 in
+        let l = x .2 in
+        let m = ap length s in
         ap (λ y. addedAll y b) t ∙ ap (λ y. addedAll y (added e b)) (sym s) ∙ g (x .0) (omega arith) ∙ sym (each-not e es b q)
 
 pub linewise : (K C : ℕ) (b : Book) (es : List Entry) → Linewise K C b es

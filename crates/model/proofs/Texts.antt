@@ -167,3 +167,8 @@ only-saved text k es = parse-by (λ p. p ≡ saved k es → Taken text k es) tex
           few = rw (s .many) (t .3);
           writable = rw (← e) at (s .writable);
         }
+
+-- its entry lines stand behind its first line
+pub taken-cut : (text : List ℕ) (k : ℕ) (es : List Entry) → Taken text k es → cutLine text ≡ some (title k (length es), entryLines es)
+unfolding textOf
+taken-cut text k es t = ap cutLine (t .printed) ∙ cut-back (title k (length es)) (entryLines es) (title-high k (length es))

@@ -39,7 +39,7 @@ enum-told : tie.Need-enum-told
 enum-told c = search needs
 
 is-there-requires : tie.Need-is-there-requires
-is-there-requires c κs = let s = c .before .before .before .before .before .before .before .before .before in let g = c .before .before .before .before .pool in sound-pool (s .args .head) (s .args .keys .now) (s .args .links .now) (s .args .scratch .now) (s .args .entry) (g .result) (g .ensures) (c .before .before .enum-told .given .1)
+is-there-requires c κs = let s = c .before .before .before .before .before .before .before .before .before in let g = c .before .before .before .before .pool in sound-pool (s .args .head) (s .args .keys .now) (s .args .links .now) (s .args .scratch .now) (g .result) (g .ensures) (c .before .before .enum-told .given .1)
 
 refused-requires-2 : tie.Need-refused-requires-2
 refused-requires-2 c κs = search needs
@@ -75,7 +75,7 @@ slice-aggregate-add-one : tie.Need-slice-aggregate-add-one
 slice-aggregate-add-one c = let s = c .before .before .before .before .before .before .before .before .before .before .before .before .before .before .before .before .before .before .before .before .before in let g = c .before .before .before .before .before .before .before .before .before .before .before .before .before .before .before .before .pool in taken-long (s .args .head .c) _ (pool-room (s .args .head) (s .args .keys .now) (s .args .links .now) (length (s .args .scratch .now)) (g .result) (g .ensures) (c .before .before .before .before .before .before .before .before .before .before .before .before .before .before .enum-told .given .1) .cHigh)
 
 add-one-requires : tie.Need-add-one-requires
-add-one-requires c κs = let s = c .before .before .before .before .before .before .before .before .before .before .before .before .before .before .before .before .before .before .before .before .before in let g = c .before .before .before .before .before .before .before .before .before .before .before .before .before .before .before .before .pool in let p = sound-pool (s .args .head) (s .args .keys .now) (s .args .links .now) (s .args .scratch .now) (s .args .entry) (g .result) (g .ensures) (c .before .before .before .before .before .before .before .before .before .before .before .before .before .before .enum-told .given .1) in let n = few-of (s .args .head) (s .args .keys .now) (s .args .links .now) (p .good) in ((p, not-full (s .args .head .n) (s .args .head .c) n (c .before .before .before .before .before .before .before .before .if2 .left)), (sym (c .before .before .before .before .before .before .before .before .before .before .before .is-there .ensures) ∙ c .before .before .before .before .before .before .before .before .before .before .if1 .left, (c .before .before .before .before .before .before .clear .ensures ∙ ap (λ n. replicate n 0) (scratch-long (s .args .head) (s .args .keys .now) (s .args .links .now) (s .args .scratch .now) (s .args .entry) (g .result) (g .ensures) (c .before .before .before .before .before .before .before .before .before .before .before .before .before .before .enum-told .given .1)), sym (taken-long (s .args .head .c) _ (p .room .cHigh)))))
+add-one-requires c κs = let s = c .before .before .before .before .before .before .before .before .before .before .before .before .before .before .before .before .before .before .before .before .before in let g = c .before .before .before .before .before .before .before .before .before .before .before .before .before .before .before .before .pool in let p = sound-pool (s .args .head) (s .args .keys .now) (s .args .links .now) (s .args .scratch .now) (g .result) (g .ensures) (c .before .before .before .before .before .before .before .before .before .before .before .before .before .before .enum-told .given .1) in let n = few-of (s .args .head) (s .args .keys .now) (s .args .links .now) (p .good) in ((p, not-full (s .args .head .n) (s .args .head .c) n (c .before .before .before .before .before .before .before .before .if2 .left)), (sym (c .before .before .before .before .before .before .before .before .before .before .before .is-there .ensures) ∙ c .before .before .before .before .before .before .before .before .before .before .if1 .left, (c .before .before .before .before .before .before .clear .ensures ∙ ap (λ n. replicate n 0) (scratch-long (s .args .head) (s .args .keys .now) (s .args .links .now) (s .args .scratch .now) (g .result) (g .ensures) (c .before .before .before .before .before .before .before .before .before .before .before .before .before .before .enum-told .given .1)), sym (taken-long (s .args .head .c) _ (p .room .cHigh)))))
 
 plain-requires : tie.Need-plain-requires
 plain-requires c κs = search needs

@@ -1,0 +1,157 @@
+use mathlib.Core.Path.{sym, ap, _∙_}
+use lib.ListN.{length, replicate}
+use Rattle.desk.proofs.Held.{few-of}
+use Rattle.book.proofs.Counts.{taken-long}
+use Rattle.book.proofs.Pools.{pool-room}
+use Rattle.book.proofs.Written.{sound-pool, scratch-long}
+use Rattle.book.proofs.TakesIn.{take-shut, take-broken, take-mismatch, take-saves, take-full, take-fits, take-done}
+use borrow.Author.Needs.{needs}
+use Rattle.book.proofs.take_in.Statement.{statement}
+use Rattle.book.proofs.take_in.Tie as tie
+use Rattle.book.proofs.take_in.Reads as reads
+use Rattle.book.proofs.take_in.Lts as lts
+use Rattle.book.proofs.answer.broken.Reads as broken-reads
+use Rattle.book.proofs.answer.plain.Reads as plain-reads
+use Rattle.book.proofs.answer.refused.Reads as refused-reads
+use Rattle.book.proofs.gate.pool.Reads as pool-reads
+use Rattle.desk.proofs.taking.count_new.Reads as count-new-reads
+use Rattle.desk.proofs.taking.put_all.Reads as put-all-reads
+use Rattle.rank.proofs.gather.clear.Reads as clear-reads
+use Rattle.text.proofs.take_apart.Reads as take-apart-reads
+
+pool-requires : tie.Need-pool-requires
+pool-requires c κs = search needs
+
+enum-known-g : tie.Need-enum-known-g
+enum-known-g c = search needs
+
+refused-requires : tie.Need-refused-requires
+refused-requires c κs = search needs
+
+same-length : tie.Need-same-length
+same-length c = search needs
+
+same-length-2 : tie.Need-same-length-2
+same-length-2 c = search needs
+
+returns : tie.Need-returns
+returns c = let s = c .before .before .before .before .before .before .before .before .before .before in let g = c .before .before .before .before .pool in let w = c .before .before .g .given in take-shut (s .args .head) (s .args .keys .now) (s .args .links .now) (s .args .scratch .now) (s .args .text .now) (g .result) (g .ensures) (w .0 .0) (w .1) (c .refused .result) (c .refused .ensures)
+
+enum-told : tie.Need-enum-told
+enum-told c = search needs
+
+take-apart-requires : tie.Need-take-apart-requires
+take-apart-requires c κs = search needs
+
+enum-known-line : tie.Need-enum-known-line
+enum-known-line c = search needs
+
+broken-requires : tie.Need-broken-requires
+broken-requires c κs = search needs
+
+enum-known-fields : tie.Need-enum-known-fields
+enum-known-fields c = search needs
+
+refused-requires-2 : tie.Need-refused-requires-2
+refused-requires-2 c κs = search needs
+
+same-length-3 : tie.Need-same-length-3
+same-length-3 c = search needs
+
+same-length-4 : tie.Need-same-length-4
+same-length-4 c = search needs
+
+returns-2 : tie.Need-returns-2
+returns-2 c = let s = c .before .before .before .before .before .before .before .before .before .before .before .before .before .before in let g = c .before .before .before .before .before .before .before .before .pool in let o = c .before .before .before .before .before .before .enum-told .given .1 in let t = c .before .before .before .before .before .take-apart in let f = c .before .before .before .fields .given in take-mismatch (s .args .head) (s .args .keys .now) (s .args .links .now) (s .args .scratch .now) (s .args .text .now) (g .result) (g .ensures) o (t .result) (t .ensures) (f .0 .0) (f .0 .1 .0) (f .1) (c .before .if1 .taken) (c .refused2 .result) (c .refused2 .ensures)
+
+count-new-requires : tie.Need-count-new-requires
+count-new-requires c κs = let s = c .before .before .before .before .before .before .before .before .before .before .before .before .before .before .before in let g = c .before .before .before .before .before .before .before .before .before .pool in let o = c .before .before .before .before .before .before .before .enum-told .given .1 in let t = c .before .before .before .before .before .before .take-apart in let f = c .before .before .before .before .fields .given in let e = c .before .before .if1 .left in (sound-pool (s .args .head) (s .args .keys .now) (s .args .links .now) (s .args .scratch .now) (g .result) (g .ensures) o, take-saves (s .args .head) (s .args .keys .now) (s .args .links .now) (s .args .scratch .now) (s .args .text .now) (g .result) (g .ensures) o (t .result) (t .ensures) (f .0 .0) (f .0 .1 .0) (f .1) e)
+
+sub-if2 : tie.Need-sub-if2
+sub-if2 c = let s = c .before .before .before .before .before .before .before .before .before .before .before .before .before .before .before .before .before in let g = c .before .before .before .before .before .before .before .before .before .before .before .pool in let o = c .before .before .before .before .before .before .before .before .before .enum-told .given .1 in let t = c .before .before .before .before .before .before .before .before .take-apart in let f = c .before .before .before .before .before .before .fields .given in let e = c .before .before .before .before .if1 .left in let m = c .before .count-new in few-of (s .args .head) (s .args .keys .now) (s .args .links .now) (sound-pool (s .args .head) (s .args .keys .now) (s .args .links .now) (s .args .scratch .now) (g .result) (g .ensures) o .good)
+
+refused-requires-3 : tie.Need-refused-requires-3
+refused-requires-3 c κs = search needs
+
+same-length-5 : tie.Need-same-length-5
+same-length-5 c = search needs
+
+same-length-6 : tie.Need-same-length-6
+same-length-6 c = search needs
+
+returns-3 : tie.Need-returns-3
+returns-3 c = let s = c .before .before .before .before .before .before .before .before .before .before .before .before .before .before .before .before .before .before .before in let g = c .before .before .before .before .before .before .before .before .before .before .before .before .before .pool in let o = c .before .before .before .before .before .before .before .before .before .before .before .enum-told .given .1 in let t = c .before .before .before .before .before .before .before .before .before .before .take-apart in let f = c .before .before .before .before .before .before .before .before .fields .given in let e = c .before .before .before .before .before .before .if1 .left in let m = c .before .before .before .count-new in take-full (s .args .head) (s .args .keys .now) (s .args .links .now) (s .args .scratch .now) (s .args .text .now) (g .result) (g .ensures) o (t .result) (t .ensures) (f .0 .0) (f .0 .1 .0) (f .1) e (m .result) (m .ensures) (c .before .if2 .taken) (c .refused3 .result) (c .refused3 .ensures)
+
+clear-requires : tie.Need-clear-requires
+clear-requires c κs = search needs
+
+array-borrow-prefix-spare : tie.Need-array-borrow-prefix-spare
+array-borrow-prefix-spare c = let s = c .before .before .before .before .before .before .before .before .before .before .before .before .before .before .before .before .before .before .before .before .before .before .before .before .before in let g = c .before .before .before .before .before .before .before .before .before .before .before .before .before .before .before .before .before .before .before .pool in let o = c .before .before .before .before .before .before .before .before .before .before .before .before .before .before .before .before .before .enum-told .given .1 in let t = c .before .before .before .before .before .before .before .before .before .before .before .before .before .before .before .before .take-apart in let f = c .before .before .before .before .before .before .before .before .before .before .before .before .before .before .fields .given in let e = c .before .before .before .before .before .before .before .before .before .before .before .before .if1 .left in let m = c .before .before .before .before .before .before .before .before .before .count-new in pool-room (s .args .head) (s .args .keys .now) (s .args .links .now) (length (s .args .scratch .now)) (g .result) (g .ensures) o .cHigh
+
+slice-aggregate-put-all : tie.Need-slice-aggregate-put-all
+slice-aggregate-put-all c = let s = c .before .before .before .before .before .before .before .before .before .before .before .before .before .before .before .before .before .before .before .before .before .before .before .before .before .before in let g = c .before .before .before .before .before .before .before .before .before .before .before .before .before .before .before .before .before .before .before .before .pool in let o = c .before .before .before .before .before .before .before .before .before .before .before .before .before .before .before .before .before .before .enum-told .given .1 in let t = c .before .before .before .before .before .before .before .before .before .before .before .before .before .before .before .before .before .take-apart in let f = c .before .before .before .before .before .before .before .before .before .before .before .before .before .before .before .fields .given in let e = c .before .before .before .before .before .before .before .before .before .before .before .before .before .if1 .left in let m = c .before .before .before .before .before .before .before .before .before .before .count-new in taken-long (s .args .head .c) _ (pool-room (s .args .head) (s .args .keys .now) (s .args .links .now) (length (s .args .scratch .now)) (g .result) (g .ensures) o .cHigh)
+
+put-all-requires : tie.Need-put-all-requires
+put-all-requires c κs = let s = c .before .before .before .before .before .before .before .before .before .before .before .before .before .before .before .before .before .before .before .before .before .before .before .before .before .before in let g = c .before .before .before .before .before .before .before .before .before .before .before .before .before .before .before .before .before .before .before .before .pool in let o = c .before .before .before .before .before .before .before .before .before .before .before .before .before .before .before .before .before .before .enum-told .given .1 in let t = c .before .before .before .before .before .before .before .before .before .before .before .before .before .before .before .before .before .take-apart in let f = c .before .before .before .before .before .before .before .before .before .before .before .before .before .before .before .fields .given in let e = c .before .before .before .before .before .before .before .before .before .before .before .before .before .if1 .left in let m = c .before .before .before .before .before .before .before .before .before .before .count-new in ((sound-pool (s .args .head) (s .args .keys .now) (s .args .links .now) (s .args .scratch .now) (g .result) (g .ensures) o, take-saves (s .args .head) (s .args .keys .now) (s .args .links .now) (s .args .scratch .now) (s .args .text .now) (g .result) (g .ensures) o (t .result) (t .ensures) (f .0 .0) (f .0 .1 .0) (f .1) e), (take-fits (s .args .head) (s .args .keys .now) (s .args .links .now) (s .args .scratch .now) (s .args .text .now) (g .result) (g .ensures) o (t .result) (t .ensures) (f .0 .0) (f .0 .1 .0) (f .1) e (m .result) (m .ensures) (c .before .before .before .before .before .before .before .before .if2 .left), (c .before .before .before .before .before .before .clear .ensures ∙ ap (λ n. replicate n 0) (scratch-long (s .args .head) (s .args .keys .now) (s .args .links .now) (s .args .scratch .now) (g .result) (g .ensures) o), sym (taken-long (s .args .head .c) _ (pool-room (s .args .head) (s .args .keys .now) (s .args .links .now) (length (s .args .scratch .now)) (g .result) (g .ensures) o .cHigh)))))
+
+plain-requires : tie.Need-plain-requires
+plain-requires c κs = search needs
+
+same-length-7 : tie.Need-same-length-7
+same-length-7 c = search needs
+
+same-length-8 : tie.Need-same-length-8
+same-length-8 c = search needs
+
+returns-4 : tie.Need-returns-4
+returns-4 c = let s = c .before .before .before .before .before .before .before .before .before .before .before .before .before in let g = c .before .before .before .before .before .before .before .pool in let o = c .before .before .before .before .before .enum-told .given .1 in let t = c .before .before .before .before .take-apart in let l = c .before .before .line .given in take-broken (s .args .head) (s .args .keys .now) (s .args .links .now) (s .args .scratch .now) (s .args .text .now) (g .result) (g .ensures) o (t .result) (t .ensures) (l .0 .0) (l .1) (c .broken .result) (c .broken .ensures)
+
+same-length-9 : tie.Need-same-length-9
+same-length-9 c = search needs
+
+same-length-10 : tie.Need-same-length-10
+same-length-10 c = search needs
+
+same-length-11 : tie.Need-same-length-11
+same-length-11 c = search needs
+
+returns-5 : tie.Need-returns-5
+returns-5 c = let s = c .before .before .before .before .before .before .before .before .before .before .before .before .before .before .before .before .before .before .before .before .before .before .before .before .before .before .before .before .before .before .before .before .before .before in let g = c .before .before .before .before .before .before .before .before .before .before .before .before .before .before .before .before .before .before .before .before .before .before .before .before .before .before .before .before .pool in let o = c .before .before .before .before .before .before .before .before .before .before .before .before .before .before .before .before .before .before .before .before .before .before .before .before .before .before .enum-told .given .1 in let t = c .before .before .before .before .before .before .before .before .before .before .before .before .before .before .before .before .before .before .before .before .before .before .before .before .before .take-apart in let f = c .before .before .before .before .before .before .before .before .before .before .before .before .before .before .before .before .before .before .before .before .before .before .before .fields .given in let e = c .before .before .before .before .before .before .before .before .before .before .before .before .before .before .before .before .before .before .before .before .before .if1 .left in let m = c .before .before .before .before .before .before .before .before .before .before .before .before .before .before .before .before .before .before .count-new in let y = c .before .before .before .before .before .before .before .put-all in take-done (s .args .head) (s .args .keys .now) (s .args .links .now) (s .args .scratch .now) (s .args .text .now) (g .result) (g .ensures) o (t .result) (t .ensures) (f .0 .0) (f .0 .1 .0) (f .1) e (m .result) (m .ensures) (c .before .before .before .before .before .before .before .before .before .before .before .before .before .before .before .before .if2 .left) (y .result) (y .last .1 .0) (y .last .1 .1 .0) (y .last .1 .1 .1 .0) (c .plain .result) (c .plain .ensures) (y .ensures .1) (y .ensures .0)
+
+pub take-in-spec : {M : Type 1} → statement M
+take-in-spec =
+    tie.close
+    (tie.spec
+    pool-requires
+    enum-known-g
+    refused-requires
+    same-length
+    same-length-2
+    returns
+    enum-told
+    take-apart-requires
+    enum-known-line
+    broken-requires
+    enum-known-fields
+    refused-requires-2
+    same-length-3
+    same-length-4
+    returns-2
+    count-new-requires
+    sub-if2
+    refused-requires-3
+    same-length-5
+    same-length-6
+    returns-3
+    clear-requires
+    array-borrow-prefix-spare
+    slice-aggregate-put-all
+    put-all-requires
+    plain-requires
+    same-length-7
+    same-length-8
+    returns-4
+    same-length-9
+    same-length-10
+    same-length-11
+    returns-5)
