@@ -1,11 +1,13 @@
 // The types that every crate passes: document 01, "The book and its edges", in the forms that it names.
 
 // Up to four numbers; those beyond the book's fields are ignored on the way in and 0 on the way out.
+#[repr(C)]
 pub struct Entry {
     pub f: [i64; 4],
 }
 
 // What stands outside the lent memory: fields, capacity, root, first free slot, number of entries.
+#[repr(C)]
 pub struct Head {
     pub k: usize,
     pub c: usize,

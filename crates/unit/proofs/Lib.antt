@@ -1,1 +1,2 @@
--- Nothing but the proofs of the doors.
+-- The laws of the face and the proofs of the doors.
+pub mod Faces

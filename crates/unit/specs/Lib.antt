@@ -1,2 +1,3 @@
 -- What the doors cite.
+pub mod Face
 pub mod Doors
