@@ -1,6 +1,6 @@
 # show: the tree of a sample book. test: everything; its last line is 'N passed, M failed'. bench: ratios to C and to other libraries.
-# library: the proved code for C and Rust to link.
-.PHONY: show test bench library
+# picture: the sample book's tree drawn, as the README shows it. library: the proved code for C and Rust to link.
+.PHONY: show test bench picture library
 
 show:
 	@cargo run --release --offline --quiet --manifest-path tests/reference/Cargo.toml < samples/bench.txt
@@ -10,6 +10,9 @@ test:
 
 bench:
 	@sh bench/run.sh
+
+picture:
+	@$(MAKE) -s show | python3 tools/draw.py > docs/tree.svg
 
 library: target/staticlib/libunit.a
 

@@ -1,0 +1,108 @@
+//! What was made of whom and how it ended, counted over all histories.
+
+use crate::call::{Call, NAMES};
+use crate::doors::Answer;
+use crate::kinds::KINDS;
+use crate::texts::FAULTS;
+
+/// The refusals that each call can give, in the order of the names.
+const POSSIBLE: [&[usize]; 10] = [
+    &[1, 2, 3],
+    &[1, 2, 3, 4, 5, 7],
+    &[1, 2, 3, 4, 6],
+    &[1, 2, 3, 4],
+    &[1, 2, 3, 4],
+    &[1, 2, 3, 4, 8],
+    &[1, 2, 3, 4, 11],
+    &[1, 2, 3, 4, 8],
+    &[1, 2, 3, 4],
+    &[1, 2, 3, 4, 7, 9, 10],
+];
+
+/// How often something was tried, how often it ended with each refusal (0: with none), and what came of it.
+#[derive(Clone, Copy, Default)]
+pub struct Count {
+    pub tried: u64,
+    pub ended: [u64; 12],
+    pub calls: u64,
+    pub unseen: u64,
+}
+
+pub struct Tally {
+    pub calls: [Count; NAMES.len()],
+    pub damage: [Count; KINDS.len()],
+    pub texts: [Count; FAULTS.len()],
+    pub histories: u64,
+    pub differences: u64,
+}
+
+impl Count {
+    fn end(&mut self, refusal: usize) {
+        self.tried += 1;
+        self.ended[refusal.min(11)] += 1;
+    }
+}
+
+impl Tally {
+    pub fn new() -> Tally {
+        Tally {
+            calls: [Count::default(); NAMES.len()],
+            damage: [Count::default(); KINDS.len()],
+            texts: [Count::default(); FAULTS.len()],
+            histories: 0,
+            differences: 0,
+        }
+    }
+
+    /// A call that both books answered alike, of a pool with this damage.
+    pub fn agreed(&mut self, call: &Call, answer: &Answer, damage: Option<usize>) {
+        self.calls[call.number()].end(answer.refusal);
+        if let Some(kind) = damage {
+            self.damage[kind].calls += 1;
+        }
+        if let Call::TakeIn(_, fault) = call {
+            self.texts[*fault].end(answer.refusal);
+        }
+    }
+
+    /// A call that they answered or did otherwise.
+    pub fn differed(&mut self, call: &Call, damage: Option<usize>) {
+        self.differences += 1;
+        if let Some(kind) = damage {
+            self.damage[kind].unseen += 1;
+        }
+        if let Call::TakeIn(_, fault) = call {
+            self.texts[*fault].unseen += 1;
+        }
+    }
+
+    /// Damage of this kind, and the reference's verdict on the pool.
+    pub fn damaged(&mut self, kind: usize, verdict: u32) {
+        self.damage[kind].end(verdict as usize);
+    }
+
+    pub fn calls_made(&self) -> u64 {
+        self.calls.iter().map(|count| count.tried).sum()
+    }
+
+    /// What never occurred though it can: a call accepted, a call's refusal, a kind of damage, a text's fault.
+    pub fn missing(&self) -> Vec<String> {
+        let mut missing = Vec::new();
+        for (number, count) in self.calls.iter().enumerate() {
+            if count.ended[0] == 0 {
+                missing.push(format!("{} accepted", NAMES[number]));
+            }
+            for refusal in POSSIBLE[number] {
+                if count.ended[*refusal] == 0 {
+                    missing.push(format!("{} refused with {refusal}", NAMES[number]));
+                }
+            }
+        }
+        let none = |counts: &[Count], i: usize| counts[i].tried == 0;
+        let kinds = (0..KINDS.len()).filter(|i| none(&self.damage, *i));
+        missing.extend(kinds.map(|i| KINDS[i].0.to_string()));
+        let faults = (0..FAULTS.len()).filter(|i| none(&self.texts, *i));
+        missing.extend(faults.map(|i| format!("text with {}", FAULTS[i].0)));
+        missing
+    }
+}
