@@ -3,7 +3,8 @@
 .PHONY: show test bench picture library
 
 show:
-	@cargo run --release --offline --quiet --manifest-path tests/reference/Cargo.toml < samples/bench.txt
+	@rt check show >&2
+	@target/bin/show < samples/bench.txt
 
 test:
 	@sh tests/run.sh

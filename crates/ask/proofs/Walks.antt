@@ -1,23 +1,29 @@
 -- The walk through memory, a turn at a time.
 use mathlib.Core.Path.{_≡_, refl, sym, ap, _∙_}
-use mathlib.Core.Bool.{Bool, true, false}
+use mathlib.Core.Bool.{Bool, true, false, true≢false}
 use mathlib.Core.List.{List}
 use Prim.Native.Nat.{ℕ, zero, suc, _+_, _-_, _≤_, _<_, Ordering, Ordering·lt, Ordering·eq, Ordering·gt}
 use native.Mathlib.Omega.{arith}
 use native.Mathlib.Nat.{mul-le-mul-left, zero-mod}
 use lib.Dec.{leb}
-use lib.ListN.{length, take}
-use lib.IntN.{ℤ}
+use lib.ListN.{length, take, getD}
+use lib.Seq.{getD-take, length-take-le}
+use lib.IntN.{ℤ, pos}
 use borrow.Author.Tests.{le-leb, lt-leb}
+use Rattle.model.specs.Number.{order}
 use Rattle.model.specs.Entry.{Entry, cutField, cmp}
+use Rattle.model.specs.Tree.{isLess}
 use Rattle.model.specs.Book.{Cell}
 use Rattle.model.specs.Pool.{cellOf, Walk, found, gone, astray, walk}
 use Rattle.model.specs.declared.Shape.{Shape}
+use Rattle.model.proofs.Orders.{flip, order-eq, order-flip}
 use Rattle.cells.specs.Orders.{Deeper}
 use Rattle.cells.specs.Orders as orders
-use Rattle.cells.specs.Slots.{leftAt, rightAt, heightAt, numbersOf, Slot, Keyed, Room, EntryCompared}
+use Rattle.cells.specs.Slots.{leftAt, rightAt, childAt, numbersOf, Slot, Keyed, Room, EntryCompared}
 use Rattle.cells.specs.declared.order.Order.{Order}
 use Rattle.cells.specs.declared.order.Order.the-variants.{Less, Equal, Greater}
+use Rattle.cells.proofs.Orders.{cut-decides}
+use Rattle.cells.proofs.Slots.{numbers-long}
 use Rattle.cells.proofs.Reps.{link-cells}
 use Rattle.ask.specs.Walks.{named}
 use Rattle.ask.specs.declared.walk.Walk.{Walk as End}
@@ -127,3 +133,27 @@ module _ (S : Shape) (e : List ℤ) (ks : List ℤ) (ls : List ℕ) (root : ℕ)
             depth = (let n : reads + 1 ≡ suc reads = omega arith in rw n (k .at reads (v .depth)));
             same = v .same ∙ walk-turn (S .k) (S .c) e ks ls at cut reads o ne h few (v .depth) w ∙ rw (q, z) refl;
           }
+
+    -- where the cut field differs it tells the way
+    module _ (ne : ¬ (at ≡ 0)) (h : at ≤ S .c) (l : ¬ (reads ≡ 16)) (room : Room S (length ks) (length ls)) (four : length e ≡ 4) (x y : ℤ) (ex : x ≡ getD e cut (pos 0)) (ey : y ≡ getD (numbersOf (S .k) ks at) cut (pos 0)) (other : x ≡ y → ⊥) where
+      decided : EntryCompared (S .k) e ks at cut (orders.named (order x y))
+      decided =
+          let k = room .kHigh in
+          let n : length (take (S .k) e) ≡ S .k = length-take-le (S .k) e (omega arith) in
+          let m : length (numbersOf (S .k) ks at) ≡ S .k = numbers-long (S .k) ks at (keyed-in S (length ks) (length ls) at room ne h) in
+          let c = v .cutLow in
+          let g : x ≡ getD (take (S .k) e) cut (pos 0) = ex ∙ sym (getD-take (S .k) e cut (pos 0) c) in
+          record { at = λ t q. (λ i. orders.named (order (g i) (ey i))) ∙ sym (cut-decides (take (S .k) e) (numbersOf (S .k) ks at) cut t (omega arith) (n ∙ sym m) (ap (λ z. cutField z t) n ∙ q) (λ w. other (g ∙ w ∙ sym ey))) }
+
+      pub goes-on : (s d : ℕ) (right : Bool) → right ≡ isLess (order y x) → s ≡ childAt ls at right → Deeper (S .k) cut d → Walking S e ks ls root s d (reads + 1)
+      goes-on s d right r z k = go right (order x y) refl r z
+        where
+          flipped : order y x ≡ flip (order x y)
+          flipped = order-flip x y
+
+          go : (b : Bool) (o : Ordering) → order x y ≡ o → b ≡ isLess (order y x) → s ≡ childAt ls at b → Walking S e ks ls root s d (reads + 1)
+          go true Ordering·lt w q c = absurd (true≢false (q ∙ ap isLess (flipped ∙ ap flip w)))
+          go false Ordering·lt w q c = goes-left (orders.named (order x y)) ne h l decided s d (ap orders.named w) c k
+          go b Ordering·eq w q c = absurd (other (order-eq x y w))
+          go true Ordering·gt w q c = goes-right (orders.named (order x y)) ne h l decided s d (ap orders.named w) c k
+          go false Ordering·gt w q c = absurd (true≢false (sym (q ∙ ap isLess (flipped ∙ ap flip w))))

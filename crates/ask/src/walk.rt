@@ -15,12 +15,13 @@ pub enum Walk {
     Astray,
 }
 
-// From the root down; trusts no root and no link, and reads at most sixteen entries.
+// From the root down; trusts no root and no link, and reads at most sixteen entries. The cut field tells the way, the others only where it is alike.
 pub fn walk_down(shape: Shape, root: usize, e: Entry, keys: &[i64], links: &[usize]) -> Walk
     requires { ⌜ Room shape (length (now keys)) (length (now links)) ⌝ }
     ensures { λ r. ⌜ r ≡ named (walk readLimit (cellOf (shape .k) (now (keys .entry)) (now (links .entry))) (shape .c) 0 (take (shape .k) (e .f)) 0 root) ⌝ }
 {
     let cap = shape.c;
+    let f = e.f;
     let mut at = root;
     let mut cut: usize = 0;
     let mut reads: usize = 0;
@@ -31,12 +32,17 @@ pub fn walk_down(shape: Shape, root: usize, e: Entry, keys: &[i64], links: &[usi
         if reads == 16 {
             return Walk::Astray;
         }
-        let o = cells::slot::compare_entry(e, keys, shape, at, cut);
+        let x = f[cut];
+        let y = cells::slot::number_at(keys, shape, at, cut);
         reads += 1;
-        match o {
-            Order::Equal => return Walk::Found(at, reads),
-            Order::Less => at = cells::slot::left_of(links, at),
-            Order::Greater => at = cells::slot::right_of(links, at),
+        if cells::order::differ(x, y) {
+            at = cells::slot::child_by(links, at, cells::order::precedes(y, x));
+        } else {
+            match cells::slot::compare_entry(e, keys, shape, at, cut) {
+                Order::Equal => return Walk::Found(at, reads),
+                Order::Less => at = cells::slot::left_of(links, at),
+                Order::Greater => at = cells::slot::right_of(links, at),
+            }
         }
         cut = cells::order::next_cut(shape, cut);
     }

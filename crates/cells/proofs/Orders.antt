@@ -13,6 +13,7 @@ use mir.Syntax.{w64}
 use mir.Val.{toZ, ofZ}
 use Rattle.model.specs.Number.{order}
 use Rattle.model.specs.Entry.{Entry, lex, cutField, superKey, cmp}
+use Rattle.model.proofs.Orders.{order-eq}
 use Rattle.cells.specs.Orders.{named, Compared, Deeper}
 use Rattle.cells.specs.declared.order.Order.{Order}
 use Rattle.cells.specs.declared.order.Order.the-variants.{Less, Equal, Greater}
@@ -69,6 +70,22 @@ unfolding cmp superKey
 cut-spans a b c t h n e =
     let f : cutField (length b) t ≡ c = rw (← n) e in
     rw (e, f) (lex-spans (drop c a) (drop c b) (take c a) (take c b) (rw (length-drop, length-drop) (omega arith)))
+
+-- where the cut field differs it decides
+pub cut-decides : (a b : Entry) (c t : ℕ) → c < length a → length a ≡ length b → cutField (length a) t ≡ c → ¬ (getD a c (pos 0) ≡ getD b c (pos 0)) → named (cmp t a b) ≡ named (order (getD a c (pos 0)) (getD b c (pos 0)))
+cut-decides a b c t h n e d =
+    let k : c < length b = omega arith in
+    cut-spans a b c t h n e
+    ∙ ap (λ x. orElse x (named (lex (take c a) (take c b)))) (heads k)
+    ∙ go (order (getD a c (pos 0)) (getD b c (pos 0))) refl (named (lex (drop (suc c) a) (drop (suc c) b))) (named (lex (take c a) (take c b)))
+  where
+    heads : c < length b → named (lex (drop c a) (drop c b)) ≡ orElse (named (order (getD a c (pos 0)) (getD b c (pos 0)))) (named (lex (drop (suc c) a) (drop (suc c) b)))
+    heads k = rw (drop-cons a c (pos 0) h, drop-cons b c (pos 0) k) (lex-else (getD a c (pos 0)) (getD b c (pos 0)) (drop (suc c) a) (drop (suc c) b))
+
+    go : (o : Ordering) → order (getD a c (pos 0)) (getD b c (pos 0)) ≡ o → (p q : Order) → orElse (orElse (named o) p) q ≡ named o
+    go Ordering·lt w p q = refl
+    go Ordering·eq w p q = absurd (d (order-eq (getD a c (pos 0)) (getD b c (pos 0)) w))
+    go Ordering·gt w p q = refl
 
 -- what lies from the cut on, as a loan of `&a[cut..]` has it
 pub behind-cut : (a : Entry) (c : ℕ) → take (length a - c) (drop c a) ≡ drop c a

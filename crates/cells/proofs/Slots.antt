@@ -1,6 +1,7 @@
 -- The links and the numbers of a slot, read and written.
 use mathlib.Core.Path.{_≡_, refl, sym, ap, _∙_}
-use mathlib.Core.Logic.{_⊎_, inl, inr, _≢_}
+use mathlib.Core.Logic.{_⊎_, ⊎-elim, inl, inr, _≢_}
+use mathlib.Core.Bool.{Bool, true, false}
 use mathlib.Core.List.{List, [], _∷_, _++_}
 use Prim.Native.Nat.{ℕ, zero, suc, _+_, _-_, _*_, _≤_, _<_}
 use native.Mathlib.Decide.{decLe}
@@ -8,11 +9,11 @@ use native.Mathlib.Nat.{mul-suc, mul-le-mul-left, mul-le-mul-right}
 use native.Mathlib.Numerals.{sub-one}
 use native.Mathlib.Omega.{arith}
 use lib.ListN.{length, getD, set, take, drop, length-set, length-take, length-drop}
-use lib.Seq.{getD-set-same, getD-set-other, length-take-le}
-use lib.IntN.{ℤ}
+use lib.Seq.{getD-set-same, getD-set-other, getD-take, getD-drop, length-take-le}
+use lib.IntN.{ℤ, pos}
 use Rattle.model.specs.Entry.{Entry, cutField, cmp}
 use Rattle.cells.specs.Orders.{named, Compared}
-use Rattle.cells.specs.Slots.{leftAt, rightAt, heightAt, tall, addressOf, numbersOf, Slot, Keyed, SlotsCompared, EntryCompared}
+use Rattle.cells.specs.Slots.{leftAt, rightAt, childAt, heightAt, tall, addressOf, numbersOf, Slot, Keyed, SlotsCompared, EntryCompared}
 use Rattle.cells.specs.Memory.{Put}
 use Rattle.cells.specs.declared.order.Order.{Order}
 
@@ -140,3 +141,21 @@ address-ends K n s i e h = let a = slot-end K s (h .some) in let b = h .fits in 
 
 pub part-at : (K : ℕ) (ks : List ℤ) (s i : ℕ) → i ≡ addressOf K s → take ((i + K) - i) (drop i ks) ≡ numbersOf K ks s
 part-at K ks s i e = rw e (part-is K ks s)
+
+-- one number of a slot
+module _ (K : ℕ) (ks : List ℤ) (s i f : ℕ) (e : i ≡ addressOf K s) (h : f < K) where
+  pub number-is : getD ks (i + f) (pos 0) ≡ getD (numbersOf K ks s) f (pos 0)
+  unfolding numbersOf
+  number-is = rw (getD-take K (drop (addressOf K s) ks) f (pos 0) h, getD-drop (addressOf K s) ks f (pos 0)) (ap (λ a. getD ks (a + f) (pos 0)) e)
+
+  pub number-in : Keyed K (length ks) s → i + f < length ks
+  number-in k = let a = address-ends K (length ks) s i e k in omega arith
+
+-- the child on a side
+module _ (ls : List ℕ) (s side : ℕ) (right : Bool) where
+  pub side-low : ((right ≡ true) × (side ≡ 1)) ⊎ ((right ≡ false) × (side ≡ 0)) → side ≤ 1
+  side-low = ⊎-elim (λ w. let e = w .1 in omega arith) (λ w. let e = w .1 in omega arith)
+
+  pub child-is : ((right ≡ true) × (side ≡ 1)) ⊎ ((right ≡ false) × (side ≡ 0)) → getD ls (3 * (s - 1) + side) 0 ≡ childAt ls s right
+  unfolding leftAt rightAt
+  child-is = ⊎-elim (λ w. rw (w .0, w .1) refl) (λ w. rw (w .0, w .1) (let z : 3 * (s - 1) + 0 ≡ 3 * (s - 1) = omega arith in rw z refl))

@@ -1,10 +1,12 @@
 // The one comparison: two entries, as parts of K numbers, under the super key that begins at a cut field.
 use model::Shape;
 ghost use mathlib.Core.Path.{_≡_};
+ghost use mathlib.Core.Bool.{true, false};
 ghost use Prim.Native.Nat.{_<_, _≤_};
 ghost use lib.ListN.{length};
 ghost use Rattle.model.specs.Number.{order};
 ghost use Rattle.model.specs.Entry.{lex};
+ghost use Rattle.model.specs.Tree.{isLess};
 ghost use Rattle.cells.specs.Orders.{named, Compared, Deeper};
 
 // How one entry stands to another.
@@ -25,6 +27,20 @@ pub fn order_of(x: i64, y: i64) -> Order
         return Order::Greater;
     }
     Order::Equal
+}
+
+// Whether one number comes before another.
+pub fn precedes(x: i64, y: i64) -> bool
+    ensures { λ r. ⌜ r ≡ isLess (order x y) ⌝ }
+{
+    x < y
+}
+
+// Whether two numbers differ.
+pub fn differ(x: i64, y: i64) -> bool
+    ensures { λ r. ⌜ (r ≡ true → x ≡ y → ⊥) × (r ≡ false → x ≡ y) ⌝ }
+{
+    x != y
 }
 
 // By the first field that differs.

@@ -4,10 +4,10 @@ use model::Entry;
 use model::Shape;
 ghost use mathlib.Core.Path.{_≡_};
 ghost use Prim.Native.Nat.{suc, _*_, _≤_, _<_};
-ghost use lib.ListN.{length, take, replicate};
+ghost use lib.ListN.{length, getD, take, replicate};
 ghost use lib.IntN.{pos};
 ghost use Rattle.model.specs.Answer.{outward};
-ghost use Rattle.cells.specs.Slots.{leftAt, rightAt, heightAt, tall, addressOf, numbersOf, Slot, Keyed, SlotsCompared, EntryCompared};
+ghost use Rattle.cells.specs.Slots.{leftAt, rightAt, childAt, heightAt, tall, addressOf, numbersOf, Slot, Keyed, SlotsCompared, EntryCompared};
 ghost use Rattle.cells.specs.Memory.{Put, Wrote, Released, Claimed};
 
 pub fn left_of(links: &[usize], s: usize) -> usize
@@ -22,6 +22,15 @@ pub fn right_of(links: &[usize], s: usize) -> usize
     ensures { λ r. ⌜ r ≡ rightAt (now (links .entry)) s ⌝ }
 {
     links[3 * (s - 1) + 1]
+}
+
+// The child on a side, by arithmetic: which side a walk takes is nothing that a machine could guess.
+pub fn child_by(links: &[usize], s: usize, right: bool) -> usize
+    requires { ⌜ Slot (length (now links)) s ⌝ }
+    ensures { λ r. ⌜ r ≡ childAt (now (links .entry)) s right ⌝ }
+{
+    let side = if right { 1 } else { 0 };
+    links[3 * (s - 1) + side]
 }
 
 // The height of what hangs at s; 0 is no slot.
@@ -48,6 +57,15 @@ pub fn address(shape: Shape, s: usize) -> usize
     ensures { λ r. ⌜ r ≡ addressOf (shape .k) s ⌝ }
 {
     shape.k * (s - 1)
+}
+
+// One number of a slot.
+pub fn number_at(keys: &[i64], shape: Shape, s: usize, field: usize) -> i64
+    requires { ⌜ (field < shape .k) × ((shape .k ≤ 4) × ((s ≤ 4096) × Keyed (shape .k) (length (now keys)) s)) ⌝ }
+    ensures { λ r. ⌜ r ≡ getD (numbersOf (shape .k) (now (keys .entry)) s) field (pos 0) ⌝ }
+{
+    let i = address(shape, s);
+    keys[i + field]
 }
 
 // Two slots, each as its part of the key table.

@@ -5,6 +5,7 @@ pub mod Changes
 pub mod Fills
 pub mod Gone
 pub mod Held
+pub mod Outward
 pub mod Printing
 pub mod Prints
 pub mod Rooms
