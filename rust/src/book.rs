@@ -15,6 +15,31 @@ pub struct Book<'a> {
     links: &'a mut [usize],
 }
 
+/// A call that only reads: head and memory, then what it asks.
+macro_rules! ask {
+    ($book:ident, $call:ident $(, $more:expr)+) => {
+        unsafe {
+            let (keys, links) = (&$book.keys, &$book.links);
+            face::$call($book.head, keys.as_ptr(), keys.len(), links.as_ptr(), links.len() $(, $more)+)
+        }
+    };
+}
+
+/// A call that changes the book: head, memory and scratch, then what it is given; the head that it answers is kept.
+macro_rules! change {
+    ($book:ident, $scratch:ident, $call:ident $(, $more:expr)+) => {{
+        let (keys, links) = (&mut $book.keys, &mut $book.links);
+        let answer = unsafe {
+            face::$call(
+                $book.head, keys.as_mut_ptr(), keys.len(), links.as_mut_ptr(), links.len(),
+                $scratch.as_mut_ptr(), $scratch.len() $(, $more)+
+            )
+        };
+        $book.head = accepted(answer)?.head;
+        Ok(())
+    }};
+}
+
 /// The answer of an accepted call.
 fn accepted(answer: Answer) -> Result<Answer, Refusal> {
     match answer.outcome {
@@ -78,20 +103,7 @@ impl<'a> Book<'a> {
 
     /// Adds an entry; scratch is as long as the capacity, may hold anything, and is all 0 after an accepted call. Refused 3, 5 or 7.
     pub fn add(&mut self, scratch: &mut [usize], entry: impl Into<Entry>) -> Result<(), Refusal> {
-        let answer = unsafe {
-            face::book_add(
-                self.head,
-                self.keys.as_mut_ptr(),
-                self.keys.len(),
-                self.links.as_mut_ptr(),
-                self.links.len(),
-                scratch.as_mut_ptr(),
-                scratch.len(),
-                entry.into(),
-            )
-        };
-        self.head = accepted(answer)?.head;
-        Ok(())
+        change!(self, scratch, book_add, entry.into())
     }
 
     /// Strikes an entry; scratch as in [add](Book::add). Refused 3 or 6.
@@ -100,34 +112,12 @@ impl<'a> Book<'a> {
         scratch: &mut [usize],
         entry: impl Into<Entry>,
     ) -> Result<(), Refusal> {
-        let answer = unsafe {
-            face::book_strike(
-                self.head,
-                self.keys.as_mut_ptr(),
-                self.keys.len(),
-                self.links.as_mut_ptr(),
-                self.links.len(),
-                scratch.as_mut_ptr(),
-                scratch.len(),
-                entry.into(),
-            )
-        };
-        self.head = accepted(answer)?.head;
-        Ok(())
+        change!(self, scratch, book_strike, entry.into())
     }
 
     /// Looks an entry up.
     pub fn look_up(&self, entry: impl Into<Entry>) -> Result<LookUp, Refusal> {
-        let answer = accepted(unsafe {
-            face::book_look_up(
-                self.head,
-                self.keys.as_ptr(),
-                self.keys.len(),
-                self.links.as_ptr(),
-                self.links.len(),
-                entry.into(),
-            )
-        })?;
+        let answer = accepted(ask!(self, book_look_up, entry.into()))?;
         let place = Place {
             entry: answer.entry,
             slot: answer.slot,
@@ -140,33 +130,19 @@ impl<'a> Book<'a> {
 
     /// How many entries a box holds.
     pub fn count(&self, bounds: [Bound; 4]) -> Result<usize, Refusal> {
-        let answer = accepted(unsafe {
-            face::book_count(
-                self.head,
-                self.keys.as_ptr(),
-                self.keys.len(),
-                self.links.as_ptr(),
-                self.links.len(),
-                bounds.into(),
-            )
-        })?;
+        let answer = accepted(ask!(self, book_count, bounds.into()))?;
         Ok(answer.count)
     }
 
     /// Writes the entries of a box to the front of the room, K numbers each, rising by a, then b, c, d; tells how many entries. Refused 8.
     pub fn list(&self, bounds: [Bound; 4], room: &mut [i64]) -> Result<usize, Refusal> {
-        let answer = accepted(unsafe {
-            face::book_list(
-                self.head,
-                self.keys.as_ptr(),
-                self.keys.len(),
-                self.links.as_ptr(),
-                self.links.len(),
-                bounds.into(),
-                room.as_mut_ptr(),
-                room.len(),
-            )
-        })?;
+        let answer = accepted(ask!(
+            self,
+            book_list,
+            bounds.into(),
+            room.as_mut_ptr(),
+            room.len()
+        ))?;
         Ok(answer.count)
     }
 
@@ -176,17 +152,12 @@ impl<'a> Book<'a> {
         query: impl Into<Entry>,
         steps: [u64; 4],
     ) -> Result<Option<Near>, Refusal> {
-        let answer = accepted(unsafe {
-            face::book_nearest(
-                self.head,
-                self.keys.as_ptr(),
-                self.keys.len(),
-                self.links.as_ptr(),
-                self.links.len(),
-                query.into(),
-                face::Steps { of: steps },
-            )
-        })?;
+        let answer = accepted(ask!(
+            self,
+            book_nearest,
+            query.into(),
+            face::Steps { of: steps }
+        ))?;
         let near = Near {
             entry: answer.entry,
             slot: answer.slot,
@@ -197,37 +168,13 @@ impl<'a> Book<'a> {
 
     /// Writes the book as text to the front of the room; tells how many bytes. Refused 8.
     pub fn save(&self, room: &mut [u8]) -> Result<usize, Refusal> {
-        let answer = accepted(unsafe {
-            face::book_save(
-                self.head,
-                self.keys.as_ptr(),
-                self.keys.len(),
-                self.links.as_ptr(),
-                self.links.len(),
-                room.as_mut_ptr(),
-                room.len(),
-            )
-        })?;
+        let answer = accepted(ask!(self, book_save, room.as_mut_ptr(), room.len()))?;
         Ok(answer.bytes)
     }
 
     /// Takes in a saved text, whole or not at all: adds what is not yet there and strikes nothing; scratch as in [add](Book::add).
     /// Refused 3, 9 with the line, 10 or 7.
     pub fn take_in(&mut self, scratch: &mut [usize], text: &[u8]) -> Result<(), Refusal> {
-        let answer = unsafe {
-            face::book_take_in(
-                self.head,
-                self.keys.as_mut_ptr(),
-                self.keys.len(),
-                self.links.as_mut_ptr(),
-                self.links.len(),
-                scratch.as_mut_ptr(),
-                scratch.len(),
-                text.as_ptr(),
-                text.len(),
-            )
-        };
-        self.head = accepted(answer)?.head;
-        Ok(())
+        change!(self, scratch, book_take_in, text.as_ptr(), text.len())
     }
 }

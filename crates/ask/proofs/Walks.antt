@@ -1,6 +1,6 @@
 -- The walk through memory, a turn at a time.
 use mathlib.Core.Path.{_≡_, refl, sym, ap, _∙_}
-use mathlib.Core.Bool.{Bool, true, false, true≢false}
+use mathlib.Core.Bool.{Bool, true, false, cond, true≢false}
 use mathlib.Core.List.{List}
 use Prim.Native.Nat.{ℕ, zero, suc, _+_, _-_, _≤_, _<_, Ordering, Ordering·lt, Ordering·eq, Ordering·gt}
 use native.Mathlib.Omega.{arith}
@@ -19,7 +19,7 @@ use Rattle.model.specs.declared.Shape.{Shape}
 use Rattle.model.proofs.Orders.{flip, order-eq, order-flip}
 use Rattle.cells.specs.Orders.{Deeper}
 use Rattle.cells.specs.Orders as orders
-use Rattle.cells.specs.Slots.{leftAt, rightAt, childAt, numbersOf, Slot, Keyed, Room, EntryCompared}
+use Rattle.cells.specs.Slots.{leftAt, rightAt, numbersOf, Slot, Keyed, Room, EntryCompared}
 use Rattle.cells.specs.declared.order.Order.{Order}
 use Rattle.cells.specs.declared.order.Order.the-variants.{Less, Equal, Greater}
 use Rattle.cells.proofs.Orders.{cut-decides}
@@ -145,15 +145,15 @@ module _ (S : Shape) (e : List ℤ) (ks : List ℤ) (ls : List ℕ) (root : ℕ)
           let g : x ≡ getD (take (S .k) e) cut (pos 0) = ex ∙ sym (getD-take (S .k) e cut (pos 0) c) in
           record { at = λ t q. (λ i. orders.named (order (g i) (ey i))) ∙ sym (cut-decides (take (S .k) e) (numbersOf (S .k) ks at) cut t (omega arith) (n ∙ sym m) (ap (λ z. cutField z t) n ∙ q) (λ w. other (g ∙ w ∙ sym ey))) }
 
-      pub goes-on : (s d : ℕ) (right : Bool) → right ≡ isLess (order y x) → s ≡ childAt ls at right → Deeper (S .k) cut d → Walking S e ks ls root s d (reads + 1)
-      goes-on s d right r z k = go right (order x y) refl r z
+      pub goes-on : (s d : ℕ) (right : Bool) (sl sr : ℕ) → right ≡ isLess (order y x) → s ≡ cond right sr sl → sl ≡ leftAt ls at → sr ≡ rightAt ls at → Deeper (S .k) cut d → Walking S e ks ls root s d (reads + 1)
+      goes-on s d right sl sr r z zl zr k = go right (order x y) refl r z
         where
           flipped : order y x ≡ flip (order x y)
           flipped = order-flip x y
 
-          go : (b : Bool) (o : Ordering) → order x y ≡ o → b ≡ isLess (order y x) → s ≡ childAt ls at b → Walking S e ks ls root s d (reads + 1)
+          go : (b : Bool) (o : Ordering) → order x y ≡ o → b ≡ isLess (order y x) → s ≡ cond b sr sl → Walking S e ks ls root s d (reads + 1)
           go true Ordering·lt w q c = absurd (true≢false (q ∙ ap isLess (flipped ∙ ap flip w)))
-          go false Ordering·lt w q c = goes-left (orders.named (order x y)) ne h l decided s d (ap orders.named w) c k
+          go false Ordering·lt w q c = goes-left (orders.named (order x y)) ne h l decided s d (ap orders.named w) (c ∙ zl) k
           go b Ordering·eq w q c = absurd (other (order-eq x y w))
-          go true Ordering·gt w q c = goes-right (orders.named (order x y)) ne h l decided s d (ap orders.named w) c k
+          go true Ordering·gt w q c = goes-right (orders.named (order x y)) ne h l decided s d (ap orders.named w) (c ∙ zr) k
           go false Ordering·gt w q c = absurd (true≢false (sym (q ∙ ap isLess (flipped ∙ ap flip w))))

@@ -32,16 +32,18 @@ pub fn walk_down(shape: Shape, root: usize, e: Entry, keys: &[i64], links: &[usi
         if reads == 16 {
             return Walk::Astray;
         }
+        let l = cells::slot::left_of(links, at);
+        let r = cells::slot::right_of(links, at);
         let x = f[cut];
         let y = cells::slot::number_at(keys, shape, at, cut);
         reads += 1;
         if cells::order::differ(x, y) {
-            at = cells::slot::child_by(links, at, cells::order::precedes(y, x));
+            at = cells::slot::either(cells::order::precedes(y, x), l, r);
         } else {
             match cells::slot::compare_entry(e, keys, shape, at, cut) {
                 Order::Equal => return Walk::Found(at, reads),
-                Order::Less => at = cells::slot::left_of(links, at),
-                Order::Greater => at = cells::slot::right_of(links, at),
+                Order::Less => at = l,
+                Order::Greater => at = r,
             }
         }
         cut = cells::order::next_cut(shape, cut);

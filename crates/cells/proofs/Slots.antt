@@ -1,7 +1,7 @@
 -- The links and the numbers of a slot, read and written.
 use mathlib.Core.Path.{_≡_, refl, sym, ap, _∙_}
-use mathlib.Core.Logic.{_⊎_, ⊎-elim, inl, inr, _≢_}
-use mathlib.Core.Bool.{Bool, true, false}
+use mathlib.Core.Logic.{_⊎_, inl, inr, _≢_}
+use mathlib.Core.Bool.{Bool, true, false, cond}
 use mathlib.Core.List.{List, [], _∷_, _++_}
 use Prim.Native.Nat.{ℕ, zero, suc, _+_, _-_, _*_, _≤_, _<_}
 use native.Mathlib.Decide.{decLe}
@@ -13,7 +13,7 @@ use lib.Seq.{getD-set-same, getD-set-other, getD-take, getD-drop, length-take-le
 use lib.IntN.{ℤ, pos}
 use Rattle.model.specs.Entry.{Entry, cutField, cmp}
 use Rattle.cells.specs.Orders.{named, Compared}
-use Rattle.cells.specs.Slots.{leftAt, rightAt, childAt, heightAt, tall, addressOf, numbersOf, Slot, Keyed, SlotsCompared, EntryCompared}
+use Rattle.cells.specs.Slots.{leftAt, rightAt, heightAt, tall, addressOf, numbersOf, Slot, Keyed, SlotsCompared, EntryCompared}
 use Rattle.cells.specs.Memory.{Put}
 use Rattle.cells.specs.declared.order.Order.{Order}
 
@@ -151,11 +151,10 @@ module _ (K : ℕ) (ks : List ℤ) (s i f : ℕ) (e : i ≡ addressOf K s) (h : 
   pub number-in : Keyed K (length ks) s → i + f < length ks
   number-in k = let a = address-ends K (length ks) s i e k in omega arith
 
--- the child on a side
-module _ (ls : List ℕ) (s side : ℕ) (right : Bool) where
-  pub side-low : ((right ≡ true) × (side ≡ 1)) ⊎ ((right ≡ false) × (side ≡ 0)) → side ≤ 1
-  side-low = ⊎-elim (λ w. let e = w .1 in omega arith) (λ w. let e = w .1 in omega arith)
+-- one of two
+module _ (right : Bool) (l r : ℕ) where
+  pub picked-right : right ≡ true → r ≡ cond right r l
+  picked-right e = rw e refl
 
-  pub child-is : ((right ≡ true) × (side ≡ 1)) ⊎ ((right ≡ false) × (side ≡ 0)) → getD ls (3 * (s - 1) + side) 0 ≡ childAt ls s right
-  unfolding leftAt rightAt
-  child-is = ⊎-elim (λ w. rw (w .0, w .1) refl) (λ w. rw (w .0, w .1) (let z : 3 * (s - 1) + 0 ≡ 3 * (s - 1) = omega arith in rw z refl))
+  pub picked-left : right ≡ false → l ≡ cond right r l
+  picked-left e = rw e refl

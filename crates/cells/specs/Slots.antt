@@ -1,6 +1,5 @@
 -- One slot of lent memory: its three links and its K numbers.
 use mathlib.Core.Path.{_≡_}
-use mathlib.Core.Bool.{Bool, true, false}
 use mathlib.Core.List.{List, []}
 use Prim.Native.Nat.{ℕ, zero, suc, _+_, _-_, _*_, _≤_, _<_}
 use lib.ListN.{length, getD, take, drop}
@@ -15,10 +14,6 @@ leftAt ls s = getD ls (3 * (s - 1)) 0
 
 unfoldable pub rightAt : List ℕ → ℕ → ℕ
 rightAt ls s = getD ls (3 * (s - 1) + 1) 0
-
-abbrev pub childAt : List ℕ → ℕ → Bool → ℕ
-childAt ls s true = rightAt ls s
-childAt ls s false = leftAt ls s
 
 unfoldable pub heightAt : List ℕ → ℕ → ℕ
 heightAt ls s = getD ls (3 * (s - 1) + 2) 0

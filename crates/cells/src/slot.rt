@@ -3,11 +3,12 @@ use crate::order::Order;
 use model::Entry;
 use model::Shape;
 ghost use mathlib.Core.Path.{_≡_};
+ghost use mathlib.Core.Bool.{cond};
 ghost use Prim.Native.Nat.{suc, _*_, _≤_, _<_};
 ghost use lib.ListN.{length, getD, take, replicate};
 ghost use lib.IntN.{pos};
 ghost use Rattle.model.specs.Answer.{outward};
-ghost use Rattle.cells.specs.Slots.{leftAt, rightAt, childAt, heightAt, tall, addressOf, numbersOf, Slot, Keyed, SlotsCompared, EntryCompared};
+ghost use Rattle.cells.specs.Slots.{leftAt, rightAt, heightAt, tall, addressOf, numbersOf, Slot, Keyed, SlotsCompared, EntryCompared};
 ghost use Rattle.cells.specs.Memory.{Put, Wrote, Released, Claimed};
 
 pub fn left_of(links: &[usize], s: usize) -> usize
@@ -24,13 +25,11 @@ pub fn right_of(links: &[usize], s: usize) -> usize
     links[3 * (s - 1) + 1]
 }
 
-// The child on a side, by arithmetic: which side a walk takes is nothing that a machine could guess.
-pub fn child_by(links: &[usize], s: usize, right: bool) -> usize
-    requires { ⌜ Slot (length (now links)) s ⌝ }
-    ensures { λ r. ⌜ r ≡ childAt (now (links .entry)) s right ⌝ }
+// One of two slots, picked and not branched to: which side a walk takes is nothing that a machine could guess.
+pub fn either(right: bool, l: usize, r: usize) -> usize
+    ensures { λ s. ⌜ s ≡ cond right r l ⌝ }
 {
-    let side = if right { 1 } else { 0 };
-    links[3 * (s - 1) + side]
+    if right { r } else { l }
 }
 
 // The height of what hangs at s; 0 is no slot.
