@@ -5,18 +5,16 @@ use mathlib.Core.List.{List, _∷_}
 use Prim.Native.Nat.{ℕ, suc, _+_, _*_, _≤_, _<_}
 use native.Mathlib.Decide.{decLe}
 use native.Mathlib.Omega.{arith}
-use lib.Dec.{leb, ltb}
+use lib.Dec.{leb}
 use lib.ListN.{length, length-append}
 use lib.IntN.{ℤ}
-use borrow.Author.Tests.{le-leb, lt-leb, lt-ltb, le-ltb}
+use borrow.Author.Tests.{le-leb, lt-leb}
 use Rattle.model.specs.Tree.{Tree, nil, node, height, items, even}
 use Rattle.model.proofs.Lists.{Every, Once-each, every-join, perm-length}
 use Rattle.model.proofs.Crowd.{InPool, crowd, up-length}
 use Rattle.model.proofs.Strikes.{slots, slots-append}
-use Rattle.cells.specs.Slots.{leftAt, rightAt, tall}
+use Rattle.cells.specs.Slots.{leftAt, rightAt}
 use Rattle.cells.specs.Memory.{Rep}
-use Rattle.alter.specs.Sides.{higherOf}
-use Rattle.alter.specs.declared.side.Side.the-variants.{Left, Right}
 
 -- ---- `is_even`
 
@@ -32,18 +30,6 @@ evened a b g h = let e : leb b (suc a) ≡ true = le-leb b (suc a) (omega arith)
 -- the test was on two numbers that are these heights
 pub even-told : (a b x y : ℕ) (o r : Bool) → a ≡ x → b ≡ y → r ≡ even a b → r ≡ o → o ≡ even x y
 even-told a b x y o r ea eb e q = sym q ∙ e ∙ ap₂ even ea eb
-
--- ---- `higher`
-
-pub higher-left : (ls : List ℕ) (s l r a b : ℕ) → l ≡ leftAt ls s → r ≡ rightAt ls s → a ≡ tall ls r → b ≡ tall ls l → a < b → Left ≡ higherOf (tall ls (leftAt ls s)) (tall ls (rightAt ls s))
-higher-left ls s l r a b el er ea eb h =
-    let t : ltb (tall ls (rightAt ls s)) (tall ls (leftAt ls s)) ≡ true = lt-ltb (tall ls (rightAt ls s)) (tall ls (leftAt ls s)) (rw (← el, ← er, ← ea, ← eb) h) in
-    rw (t, higherOf) refl
-
-pub higher-right : (ls : List ℕ) (s l r a b : ℕ) → l ≡ leftAt ls s → r ≡ rightAt ls s → a ≡ tall ls r → b ≡ tall ls l → b ≤ a → Right ≡ higherOf (tall ls (leftAt ls s)) (tall ls (rightAt ls s))
-higher-right ls s l r a b el er ea eb h =
-    let t : ltb (tall ls (rightAt ls s)) (tall ls (leftAt ls s)) ≡ false = le-ltb (tall ls (rightAt ls s)) (tall ls (leftAt ls s)) (rw (← el, ← er, ← ea, ← eb) h) in
-    rw (t, higherOf) refl
 
 -- ---- the height of a tree in a pool
 

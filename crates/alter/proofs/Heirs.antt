@@ -27,10 +27,10 @@ use Rattle.cells.specs.declared.order.Order.{Order}
 use Rattle.cells.specs.declared.order.Order.the-variants.{Less, Equal, Greater}
 use Rattle.cells.proofs.Reps.{Node, open-node, unique, rep-bound, rep-frame, node-in}
 use Rattle.ask.proofs.Walks.{keyed-in}
-use Rattle.alter.specs.Sides.{wayOf, onSide, higherOf}
+use Rattle.seek.specs.Sides.{wayOf, onSide, higherOf}
 use Rattle.alter.specs.Strikes.{Strikable, StrikableOn, StruckOut, StruckOn}
-use Rattle.alter.specs.declared.side.Side.{Side}
-use Rattle.alter.specs.declared.side.Side.the-variants.{Left, Right}
+use Rattle.seek.specs.declared.side.Side.{Side}
+use Rattle.seek.specs.declared.side.Side.the-variants.{Left, Right}
 use Rattle.alter.specs.declared.strike.Struck.{Struck}
 use Rattle.alter.proofs.Struck.{sided, lists-apart}
 

@@ -23,10 +23,10 @@ use Rattle.cells.proofs.Reps.{Node, open-node, open-nil, unique, rep-frame, fra
 use Rattle.ask.proofs.Walks.{keyed-in}
 use Rattle.rank.proofs.Merging.{cut-here}
 use Rattle.rank.proofs.Shapes.{every-in, in-perm}
-use Rattle.alter.specs.Alters.{itemIn, MendableOn, MendedOn, Insertable, Inserted, InsertedOn}
-use Rattle.alter.specs.Sides.{childAt, otherOf, onSide}
-use Rattle.alter.specs.declared.side.Side.{Side}
-use Rattle.alter.specs.declared.side.Side.the-variants.{Left, Right}
+use Rattle.alter.specs.Alters.{MendableOn, MendedOn, Insertable, Inserted, InsertedOn}
+use Rattle.seek.specs.Sides.{itemIn, childAt, otherOf, onSide}
+use Rattle.seek.specs.declared.side.Side.{Side}
+use Rattle.seek.specs.declared.side.Side.the-variants.{Left, Right}
 use Rattle.alter.proofs.Sided.{Sided, sided, Halves, halves, sided-perm, whole-perm, child-same}
 
 -- ---- the slots of the grown tree

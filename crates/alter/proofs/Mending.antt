@@ -22,7 +22,8 @@ use Rattle.cells.proofs.Reps.{tall-rep, rep-bound, unique, frame-trans, joined,
 use Rattle.rank.specs.Ranking.{itemsAt}
 use Rattle.rank.specs.Rebuilding.{Fitting, Gathered, Chosen, Rebuilt}
 use Rattle.rank.proofs.Shapes.{items-held, Parts, parts}
-use Rattle.alter.specs.Alters.{itemIn, Mendable, Mended}
+use Rattle.alter.specs.Alters.{Mendable, Mended}
+use Rattle.seek.specs.Sides.{itemIn}
 use Rattle.alter.proofs.Heights.{few, low-tree, rep-pool}
 
 pub scratch-long : (C : ℕ) (sc : List ℕ) → sc ≡ replicate C 0 → length sc ≡ C

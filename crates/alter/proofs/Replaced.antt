@@ -25,11 +25,10 @@ use Rattle.cells.proofs.Slots.{numbers-long}
 use Rattle.cells.proofs.Reps.{Node, open-node, open-nil, unique, tall-rep, in-node, in-cases, frame-self, frame-trans}
 use Rattle.ask.specs.Standing.{Standing}
 use Rattle.ask.proofs.Walks.{keyed-in}
-use Rattle.alter.specs.Alters.{itemIn}
-use Rattle.alter.specs.Seeks.{Sought}
-use Rattle.alter.specs.Sides.{wayOf, childAt, onSide, higherOf}
+use Rattle.seek.specs.Sides.{itemIn, wayOf, childAt, onSide, higherOf}
+use Rattle.seek.specs.Seeks.{Sought}
 use Rattle.alter.specs.Strikes.{Strikable, StrikableOn, StruckOut, StruckOn}
-use Rattle.alter.specs.declared.side.Side.{Side}
+use Rattle.seek.specs.declared.side.Side.{Side}
 use Rattle.alter.specs.declared.strike.Struck.{Struck}
 use Rattle.alter.proofs.Struck.{every-of, near-in, Sided, sided, apart}
 use Rattle.alter.proofs.Heirs.{on-on, strike-takes, freed-takes, strike-ends, freed-ends, heir-side, ordered-on, next-in, few-slots, slots-length, Halves, halves, rewritten, slots-moved, pooled, once-any, side-ready}

@@ -11,10 +11,10 @@ use Rattle.model.proofs.Strikes.{slots, slots-append}
 use Rattle.cells.specs.Slots.{leftAt, rightAt, tall, Slot}
 use Rattle.cells.specs.Memory.{Rep, Same}
 use Rattle.cells.proofs.Reps.{tall-rep}
-use Rattle.alter.specs.Alters.{itemIn, Mendable, Mended, MendableOn, MendedOn}
-use Rattle.alter.specs.Sides.{childAt, otherOf, onSide}
-use Rattle.alter.specs.declared.side.Side.{Side}
-use Rattle.alter.specs.declared.side.Side.the-variants.{Left, Right}
+use Rattle.alter.specs.Alters.{Mendable, Mended, MendableOn, MendedOn}
+use Rattle.seek.specs.Sides.{itemIn, childAt, otherOf, onSide}
+use Rattle.seek.specs.declared.side.Side.{Side}
+use Rattle.seek.specs.declared.side.Side.the-variants.{Left, Right}
 
 -- the parts of a tree that lies at a slot s
 pub record Sided (side : Side) (v : Tree) : Type 0 where

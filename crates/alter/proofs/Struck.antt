@@ -22,11 +22,11 @@ use Rattle.cells.specs.Memory.{Rep, In, Same, Frame}
 use Rattle.cells.proofs.Slots.{tall-slot}
 use Rattle.cells.proofs.Reps.{tall-rep, unique, in-left, in-right, in-cases, in-node, rep-frame, frame-trans}
 use Rattle.rank.proofs.Shapes.{every-in, in-perm}
-use Rattle.alter.specs.Alters.{itemIn, MendableOn, MendedOn}
-use Rattle.alter.specs.Sides.{childAt, otherOf, onSide}
+use Rattle.alter.specs.Alters.{MendableOn, MendedOn}
+use Rattle.seek.specs.Sides.{itemIn, childAt, otherOf, onSide}
 use Rattle.alter.specs.Strikes.{Strikable, StrikableOn, StruckOut, StruckOn}
-use Rattle.alter.specs.declared.side.Side.{Side}
-use Rattle.alter.specs.declared.side.Side.the-variants.{Left, Right}
+use Rattle.seek.specs.declared.side.Side.{Side}
+use Rattle.seek.specs.declared.side.Side.the-variants.{Left, Right}
 use Rattle.alter.specs.declared.strike.Struck.{Struck}
 
 -- ---- slots that are left

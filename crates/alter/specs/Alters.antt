@@ -11,11 +11,8 @@ use Rattle.model.proofs.Lists.{Once-each}
 use Rattle.model.proofs.Strikes.{slots}
 use Rattle.cells.specs.Slots.{numbersOf, Slot}
 use Rattle.cells.specs.Memory.{Rep, Frame}
-use Rattle.alter.specs.Sides.{childAt, otherOf, onSide}
-use Rattle.alter.specs.declared.side.Side.{Side}
-
-abbrev pub itemIn : ℕ → List ℤ → ℕ → Item
-itemIn K ks s = record { slot = s; entry = numbersOf K ks s }
+use Rattle.seek.specs.Sides.{childAt, otherOf, onSide, itemIn}
+use Rattle.seek.specs.declared.side.Side.{Side}
 
 -- trees lie at l and r, and no slot of them and s is there twice
 pub record Mendable (K : ℕ) (ks : List ℤ) (ls : List ℕ) (s l r : ℕ) : Type 0 where

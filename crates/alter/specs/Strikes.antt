@@ -13,8 +13,8 @@ use Rattle.model.proofs.Lists.{Once-each}
 use Rattle.model.proofs.Strikes.{slots}
 use Rattle.cells.specs.Memory.{Rep, Frame}
 use Rattle.ask.specs.Standing.{Stands}
-use Rattle.alter.specs.Sides.{onSide}
-use Rattle.alter.specs.declared.side.Side.{Side}
+use Rattle.seek.specs.Sides.{onSide}
+use Rattle.seek.specs.declared.side.Side.{Side}
 use Rattle.alter.specs.declared.strike.Struck.{Struck}
 
 -- a tree in order stands at s, and no slot is there twice

@@ -1,7 +1,7 @@
 // A new leaf put into a tree, and the upward check along its path.
-use crate::side::Side;
 use cells::order::Order;
 use model::Shape;
+use seek::side::Side;
 ghost use mathlib.Core.Path.{_≡_};
 ghost use Prim.Native.Nat.{_<_};
 ghost use lib.ListN.{length, replicate};
@@ -55,7 +55,7 @@ pub fn insert_on(
     ensures scratch { λ _. ⌜ now (scratch .exit) ≡ replicate (shape .c) 0 ⌝ }
 {
     let next = cells::order::next_cut(shape, cut);
-    let child = crate::side::child_of(links, s, side);
+    let child = seek::side::child_of(links, s, side);
     let grown = insert(keys, links, shape, next, child, new, scratch, spare);
     crate::mend::mend_on(keys, links, shape, cut, s, side, grown, scratch, spare)
 }

@@ -1,6 +1,6 @@
 // The upward check of one entry.
-use crate::side::Side;
 use model::Shape;
+use seek::side::Side;
 ghost use mathlib.Core.Path.{_≡_};
 ghost use Prim.Native.Nat.{_<_};
 ghost use lib.ListN.{length, replicate};

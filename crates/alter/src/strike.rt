@@ -1,8 +1,8 @@
 // One entry taken out of a tree.
-use crate::side::Side;
 use cells::order::Order;
 use model::Entry;
 use model::Shape;
+use seek::side::Side;
 ghost use mathlib.Core.Path.{_≡_};
 ghost use Prim.Native.Nat.{_<_};
 ghost use lib.ListN.{length, replicate, take};
@@ -59,13 +59,13 @@ pub fn replace(
     ensures tree { λ x. ⌜ StruckOut (shape .k) (now (keys .entry)) (now (keys .exit)) (now (links .entry)) (now (links .exit)) cut s (numbersOf (shape .k) (now (keys .entry)) s) x ⌝ }
     ensures scratch { λ _. ⌜ now (scratch .exit) ≡ replicate (shape .c) 0 ⌝ }
 {
-    let side = crate::side::higher(links, s);
-    let child = crate::side::child_of(links, s, side);
+    let side = seek::side::higher(links, s);
+    let child = seek::side::child_of(links, s, side);
     if child == 0 {
         return Struck { root: 0, freed: s };
     }
     let next = cells::order::next_cut(shape, cut);
-    let heir = crate::seek::seek(keys, links, shape, side, cut, child, next);
+    let heir = seek::search::seek(keys, links, shape, side, cut, child, next);
     let e = cells::slot::entry_at(keys, shape, heir);
     cells::slot::put_entry(keys, shape, s, e);
     strike_on(keys, links, shape, cut, s, side, e, scratch, spare)
@@ -90,7 +90,7 @@ pub fn strike_on(
     ensures scratch { λ _. ⌜ now (scratch .exit) ≡ replicate (shape .c) 0 ⌝ }
 {
     let next = cells::order::next_cut(shape, cut);
-    let child = crate::side::child_of(links, s, side);
+    let child = seek::side::child_of(links, s, side);
     let x = strike(keys, links, shape, next, child, e, scratch, spare);
     let root = crate::mend::mend_on(keys, links, shape, cut, s, side, x.root, scratch, spare);
     Struck {

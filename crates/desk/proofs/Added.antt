@@ -30,7 +30,8 @@ use Rattle.cells.specs.Memory.{Rep, In, Same, Frame, Claimed}
 use Rattle.cells.proofs.Reps.{rep-frame, frame-trans, link-cells}
 use Rattle.rank.proofs.Shapes.{every-in}
 use Rattle.alter.proofs.Struck.{every-of}
-use Rattle.alter.specs.Alters.{itemIn, Insertable, Inserted}
+use Rattle.alter.specs.Alters.{Insertable, Inserted}
+use Rattle.seek.specs.Sides.{itemIn}
 use Rattle.desk.specs.Changes.{Sound, Became}
 use Rattle.desk.proofs.Changes.{Chain, its, its-rep, its-chain, its-once, its-pool, pool-slot, chain-apart, chain-kept, put-together}
 use Rattle.desk.proofs.Held.{first-cut}

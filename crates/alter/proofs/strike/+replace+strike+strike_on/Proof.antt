@@ -3,7 +3,7 @@ use native.Mathlib.Omega.{arith}
 use lib.ListN.{take}
 use borrow.Author.Needs.{needs}
 use Rattle.cells.specs.Slots.{tall}
-use Rattle.alter.specs.declared.side.Side.the-variants.{Left, Right}
+use Rattle.seek.specs.declared.side.Side.the-variants.{Left, Right}
 use Rattle.alter.proofs.Struck as struck
 use Rattle.alter.proofs.Heirs as heirs
 use Rattle.alter.proofs.Replaced as replaced
@@ -20,9 +20,9 @@ use Rattle.alter.proofs.strike.strike_on.Reads as strike-on
 use Rattle.alter.proofs.strike.strike_on.Kinds as strike-on-kinds
 use Rattle.alter.proofs.strike.+replace+strike+strike_on.Lts-strike_on as strike-on-lts
 use Rattle.alter.proofs.mend.mend_on.Reads as mend-on-reads
-use Rattle.alter.proofs.seek.seek.Reads as seek-reads
-use Rattle.alter.proofs.side.child_of.Reads as child-of-reads
-use Rattle.alter.proofs.side.higher.Reads as higher-reads
+use Rattle.seek.proofs.search.seek.Reads as seek-reads
+use Rattle.seek.proofs.side.child_of.Reads as child-of-reads
+use Rattle.seek.proofs.side.higher.Reads as higher-reads
 use Rattle.cells.proofs.order.next_cut.Reads as next-cut-reads
 use Rattle.cells.proofs.slot.compare_entry.Reads as compare-entry-reads
 use Rattle.cells.proofs.slot.entry_at.Reads as entry-at-reads

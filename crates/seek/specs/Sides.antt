@@ -1,12 +1,14 @@
--- The declared side, and the definition's.
+-- The declared side, and the definition's; what a slot holds.
 use mathlib.Core.List.{List}
 use mathlib.Core.Bool.{true, false}
 use Prim.Native.Nat.{ℕ}
 use lib.Dec.{ltb}
+use lib.IntN.{ℤ}
+use Rattle.model.specs.Tree.{Item}
 use Rattle.model.specs.Strike.{left, right, Side as Way}
-use Rattle.cells.specs.Slots.{leftAt, rightAt}
-use Rattle.alter.specs.declared.side.Side.{Side}
-use Rattle.alter.specs.declared.side.Side.the-variants.{Left, Right}
+use Rattle.cells.specs.Slots.{leftAt, rightAt, numbersOf}
+use Rattle.seek.specs.declared.side.Side.{Side}
+use Rattle.seek.specs.declared.side.Side.the-variants.{Left, Right}
 
 abbrev pub wayOf : Side → Way
 wayOf Left = left
@@ -28,3 +30,7 @@ onSide Right a b = b
 -- of two heights the side of the higher, the right one where they are equal
 abbrev pub higherOf : ℕ → ℕ → Side
 higherOf l r = elim (ltb r l) [ true ↦ Left | false ↦ Right ]
+
+-- a slot with its entry
+abbrev pub itemIn : ℕ → List ℤ → ℕ → Item
+itemIn K ks s = record { slot = s; entry = numbersOf K ks s }

@@ -1,7 +1,7 @@
-use Rattle.alter.proofs.Heights as laws
+use Rattle.seek.proofs.Higher as laws
 use borrow.Author.Needs.{needs}
-use Rattle.alter.proofs.side.higher.Statement.{statement}
-use Rattle.alter.proofs.side.higher.Tie as tie
+use Rattle.seek.proofs.side.higher.Statement.{statement}
+use Rattle.seek.proofs.side.higher.Tie as tie
 
 left-of-requires : tie.Need-left-of-requires
 left-of-requires c κs = search needs

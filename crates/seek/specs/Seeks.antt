@@ -7,9 +7,9 @@ use Rattle.model.specs.Entry.{cutField}
 use Rattle.model.specs.Tree.{Item, Tree, node, items}
 use Rattle.model.specs.Strike.{nearer, next}
 use Rattle.ask.specs.Standing.{Stands}
-use Rattle.alter.specs.Alters.{itemIn}
-use Rattle.alter.specs.Sides.{wayOf}
-use Rattle.alter.specs.declared.side.Side.{Side}
+use Rattle.seek.specs.Sides.{itemIn}
+use Rattle.seek.specs.Sides.{wayOf}
+use Rattle.seek.specs.declared.side.Side.{Side}
 
 -- x is the slot of the further of two entries
 pub record Further (K : ℕ) (ks : List ℤ) (side : Side) (h a b x : ℕ) : Type 0 where

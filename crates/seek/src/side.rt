@@ -3,7 +3,7 @@ ghost use mathlib.Core.Path.{_≡_};
 ghost use Prim.Native.Nat.{_*_, _≤_};
 ghost use lib.ListN.{length};
 ghost use Rattle.cells.specs.Slots.{leftAt, rightAt, tall, Slot};
-ghost use Rattle.alter.specs.Sides.{childAt, otherOf, higherOf};
+ghost use Rattle.seek.specs.Sides.{childAt, otherOf, higherOf};
 
 // Below or above, under the super key of the entry.
 pub enum Side {

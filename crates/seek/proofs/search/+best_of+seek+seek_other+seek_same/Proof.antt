@@ -1,32 +1,32 @@
 use mathlib.Core.Path.{_≡_, sym, ap, _∙_}
 use Rattle.cells.specs.Slots.{leftAt, rightAt, tall}
 use Rattle.ask.proofs.Standing as standing
-use Rattle.alter.specs.Sides.{childAt, otherOf}
-use Rattle.alter.proofs.Seeking as laws
+use Rattle.seek.specs.Sides.{childAt, otherOf}
+use Rattle.seek.proofs.Seeking as laws
 use borrow.Author.Needs.{needs}
 use Prim.Native.Nat.{ℕ, _+_, _*_, _<_}
 use borrow.Fn.Kinds.{In}
 use borrow.Fn.PlainCycle.{Measures, is, falls, and}
-use Rattle.alter.proofs.seek.best_of.Reads as best-of
-use Rattle.alter.proofs.seek.best_of.Kinds as best-of-kinds
-use Rattle.alter.proofs.seek.+best_of+seek+seek_other+seek_same.Lts-best_of as best-of-lts
-use Rattle.alter.proofs.seek.seek.Reads as seek
-use Rattle.alter.proofs.seek.seek.Kinds as seek-kinds
-use Rattle.alter.proofs.seek.+best_of+seek+seek_other+seek_same.Lts-seek as seek-lts
-use Rattle.alter.proofs.seek.seek_other.Reads as seek-other
-use Rattle.alter.proofs.seek.seek_other.Kinds as seek-other-kinds
-use Rattle.alter.proofs.seek.+best_of+seek+seek_other+seek_same.Lts-seek_other as seek-other-lts
-use Rattle.alter.proofs.seek.seek_same.Reads as seek-same
-use Rattle.alter.proofs.seek.seek_same.Kinds as seek-same-kinds
-use Rattle.alter.proofs.seek.+best_of+seek+seek_other+seek_same.Lts-seek_same as seek-same-lts
-use Rattle.alter.proofs.seek.further.Reads as further-reads
-use Rattle.alter.proofs.side.child_of.Reads as child-of-reads
-use Rattle.alter.proofs.side.other.Reads as other-reads
+use Rattle.seek.proofs.search.best_of.Reads as best-of
+use Rattle.seek.proofs.search.best_of.Kinds as best-of-kinds
+use Rattle.seek.proofs.search.+best_of+seek+seek_other+seek_same.Lts-best_of as best-of-lts
+use Rattle.seek.proofs.search.seek.Reads as seek
+use Rattle.seek.proofs.search.seek.Kinds as seek-kinds
+use Rattle.seek.proofs.search.+best_of+seek+seek_other+seek_same.Lts-seek as seek-lts
+use Rattle.seek.proofs.search.seek_other.Reads as seek-other
+use Rattle.seek.proofs.search.seek_other.Kinds as seek-other-kinds
+use Rattle.seek.proofs.search.+best_of+seek+seek_other+seek_same.Lts-seek_other as seek-other-lts
+use Rattle.seek.proofs.search.seek_same.Reads as seek-same
+use Rattle.seek.proofs.search.seek_same.Kinds as seek-same-kinds
+use Rattle.seek.proofs.search.+best_of+seek+seek_other+seek_same.Lts-seek_same as seek-same-lts
+use Rattle.seek.proofs.search.further.Reads as further-reads
+use Rattle.seek.proofs.side.child_of.Reads as child-of-reads
+use Rattle.seek.proofs.side.other.Reads as other-reads
 use Rattle.cells.proofs.order.next_cut.Reads as next-cut-reads
 use Rattle.cells.proofs.slot.left_of.Reads as left-of-reads
 use Rattle.cells.proofs.slot.right_of.Reads as right-of-reads
-use Rattle.alter.proofs.seek.+best_of+seek+seek_other+seek_same.{statement}
-use Rattle.alter.proofs.seek.+best_of+seek+seek_other+seek_same.Tie.{close}
+use Rattle.seek.proofs.search.+best_of+seek+seek_other+seek_same.{statement}
+use Rattle.seek.proofs.search.+best_of+seek+seek_other+seek_same.Tie.{close}
 
 abbrev μ-best-of : Measures 2 best-of-kinds.ps ℕ
 μ-best-of κs a = 3 * tall (a .1 .0 .now) (a .1 .1 .1 .1 .1 .1 .0) + 2

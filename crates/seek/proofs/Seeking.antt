@@ -25,12 +25,12 @@ use Rattle.ask.specs.Standing.{Stands, Standing}
 use Rattle.ask.proofs.Standing as standing
 use Rattle.ask.proofs.Walks.{keyed-in}
 use Rattle.rank.proofs.Merging.{cut-here}
-use Rattle.alter.specs.Alters.{itemIn}
-use Rattle.alter.specs.Sides.{wayOf, otherOf, childAt}
-use Rattle.alter.specs.Seeks.{Better, Further, Sought}
-use Rattle.alter.specs.declared.side.Side.{Side}
-use Rattle.alter.specs.declared.side.Side.the-variants.{Left, Right}
-use Rattle.alter.proofs.Lasts.{Of, Last, LastOf, nearer-one, next-of, next-is-last, last-is-next, last-join, last-here, last-far, ordered-apart}
+use Rattle.seek.specs.Sides.{itemIn}
+use Rattle.seek.specs.Sides.{wayOf, otherOf, childAt}
+use Rattle.seek.specs.Seeks.{Better, Further, Sought}
+use Rattle.seek.specs.declared.side.Side.{Side}
+use Rattle.seek.specs.declared.side.Side.the-variants.{Left, Right}
+use Rattle.seek.proofs.Lasts.{Of, Last, LastOf, nearer-one, next-of, next-is-last, last-is-next, last-join, last-here, last-far, ordered-apart}
 
 -- two depths with the same cut order entries of K numbers in the same way
 same-cut : (K t d : ℕ) (a b : Entry) → length a ≡ K → length b ≡ K → cutField K t ≡ cutField K d → cmp d a b ≡ cmp t a b

@@ -1,6 +1,6 @@
 use borrow.Author.Needs.{needs}
-use Rattle.alter.proofs.side.child_of.Statement.{statement}
-use Rattle.alter.proofs.side.child_of.Tie as tie
+use Rattle.seek.proofs.side.child_of.Statement.{statement}
+use Rattle.seek.proofs.side.child_of.Tie as tie
 
 enum-told : tie.Need-enum-told
 enum-told c = search needs

@@ -8,7 +8,7 @@ ghost use lib.ListN.{length};
 ghost use Rattle.model.proofs.Crowd.{InPool};
 ghost use Rattle.cells.specs.Slots.{Keyed, Room};
 ghost use Rattle.ask.specs.Standing.{Standing};
-ghost use Rattle.alter.specs.Seeks.{Better, Further, Sought};
+ghost use Rattle.seek.specs.Seeks.{Better, Further, Sought};
 
 // The last towards an entry whose cut is `home`, in the tree at s, which is cut at `cut`. The two kinds of level take turns.
 pub fn seek(

@@ -1,7 +1,7 @@
-use Rattle.alter.proofs.Seeking as laws
+use Rattle.seek.proofs.Seeking as laws
 use borrow.Author.Needs.{needs}
-use Rattle.alter.proofs.seek.further.Statement.{statement}
-use Rattle.alter.proofs.seek.further.Tie as tie
+use Rattle.seek.proofs.search.further.Statement.{statement}
+use Rattle.seek.proofs.search.further.Tie as tie
 
 compare-slots-requires : tie.Need-compare-slots-requires
 compare-slots-requires c κs = search needs

@@ -1,0 +1,4 @@
+-- Laws of the sides and of the search.
+pub mod Higher
+pub mod Lasts
+pub mod Seeking
