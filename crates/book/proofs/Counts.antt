@@ -1,16 +1,14 @@
 -- Count as it is called: the gate, and what the walk of the box comes to.
-use mathlib.Core.Path.{_≡_, refl, sym, ap, _∙_}
+use mathlib.Core.Path.{_≡_, sym, ap, _∙_}
 use mathlib.Core.Option.{none, some}
-use mathlib.Core.List.{List, []}
-use Prim.Native.Nat.{ℕ, _+_, _-_, _≤_, _<_}
-use native.Mathlib.Omega.{arith}
-use native.Mathlib.Nat.{zero-add}
-use lib.ListN.{length, take}
-use lib.Seq.{length-take-le}
+use mathlib.Core.List.{List}
+use Prim.Native.Nat.{ℕ}
+use lib.ListN.{length}
 use lib.IntN.{ℤ}
 use Rattle.model.specs.Answer.{gate, refused, counted}
 use Rattle.model.specs.Ask.{keep}
 use Rattle.model.specs.Rebuild.{listing}
+use Rattle.model.specs.Tree.{Tree}
 use Rattle.model.specs.Gate.{rows4, reading}
 use Rattle.model.specs.Calls.{count}
 use Rattle.model.specs.Pool.{bookOf}
@@ -19,18 +17,13 @@ use Rattle.model.specs.declared.Bound.{Bound}
 use Rattle.model.specs.declared.Refusal.{Refusal}
 use Rattle.model.specs.declared.Answer.{Answer}
 use Rattle.model.proofs.Gates.{checked-shut, checked-open}
-use Rattle.cells.specs.Slots.{Room}
-use Rattle.ask.specs.Standing.{Standing}
-use Rattle.ask.specs.Boxes.{slotsIn, Collected}
+use Rattle.ask.specs.Standing.{Stands}
+use Rattle.ask.specs.Boxes.{slotsIn}
 use Rattle.ask.proofs.Listed.{box-count}
-use Rattle.sound.specs.Parts.{shapeOf}
 use Rattle.book.specs.Gates.{told, pooled}
 use Rattle.book.specs.declared.gate.Gate.{Gate}
 use Rattle.book.specs.declared.gate.Gate.the-variants.{Open, Shut}
-use Rattle.book.proofs.Pools.{no-scratch-rows, pool-refuses, all-open, pool-room, pool-standing, pool-stands, pool-distinct}
-
-pub taken-long : (c : ℕ) (xs : List ℕ) → c ≤ length xs → c ≡ length (take c xs)
-taken-long c xs h = sym (length-take-le c xs h)
+use Rattle.book.proofs.Pools.{no-scratch-rows, pool-refuses, all-open, pool-stands, pool-distinct}
 
 module _ (h : Head) (ks : List ℤ) (ls : List ℕ) (g : Gate) (is : g ≡ told (gate (pooled h ks ls (h .c)))) where
   -- rows 1 to 4 of a call that is lent no scratch
@@ -40,22 +33,14 @@ module _ (h : Head) (ks : List ℤ) (ls : List ℕ) (g : Gate) (is : g ≡ told 
   pub reads-open : g ≡ Open → gate (rows4 h ks ls) ≡ none
   reads-open o = ap gate (sym (no-scratch-rows h ks ls)) ∙ all-open h ks ls (h .c) g is o
 
-  -- what the walk of a box asks, over the front of any list that is long enough
-  pub collect-ready : (xs : List ℕ) → h .c ≤ length xs → g ≡ Open → (Room (shapeOf h) (length ks) (length ls) × (0 < h .k)) × ((0 ≤ length (take (h .c) xs)) × Standing (h .k) ks ls (h .root) 0 (length (take (h .c) xs) - 0))
-  collect-ready xs l o =
-      let m = pool-room h ks ls (h .c) g is o in
-      let st = pool-standing h ks ls (h .c) g is o in
-      let e = taken-long (h .c) xs l in
-      ((m, (let k = m .kLow in omega arith)), (omega arith, record { tree = st .tree; stands = st .stands; few = let f = st .few in omega arith }))
-
   module _ (bs : List Bound) where
     pub count-shut : (r : Refusal) → g ≡ Shut r → count h ks ls bs .answer ≡ refused h 0 r
     unfolding count
     count-shut r e = ap (λ a. a .answer) (checked-shut (rows4 h ks ls) (λ q. reading (refused h 0 q) ks ls) (reading (counted h (length (keep bs (listing (bookOf h ks ls .tree))))) ks ls) r (reads-shut r e))
 
-    pub count-open : g ≡ Open → (before after : List ℕ) (n : ℕ) (a : Answer) → Collected (h .k) ks ls (h .root) 0 bs before after 0 n → a ≡ counted h n → a ≡ count h ks ls bs .answer
+    pub count-open : g ≡ Open → (n : ℕ) (a : Answer) → ((u : Tree) → Stands (h .k) ks ls (h .root) 0 u → n ≡ length (slotsIn bs u)) → a ≡ counted h n → a ≡ count h ks ls bs .answer
     unfolding count
-    count-open o before after n a w e =
+    count-open o n a w e =
         let u = bookOf h ks ls .tree in
-        let f : n ≡ length (keep bs (listing u)) = w .next u (pool-stands h ks ls (h .c) g is o) ∙ zero-add (length (slotsIn bs u)) ∙ sym (box-count bs u (pool-distinct h ks ls (h .c) g is o)) in
+        let f : n ≡ length (keep bs (listing u)) = w u (pool-stands h ks ls (h .c) g is o) ∙ sym (box-count bs u (pool-distinct h ks ls (h .c) g is o)) in
         e ∙ ap (counted h) f ∙ sym (ap (λ x. x .answer) (checked-open (rows4 h ks ls) (λ q. reading (refused h 0 q) ks ls) (reading (counted h (length (keep bs (listing u)))) ks ls) (reads-open o)))

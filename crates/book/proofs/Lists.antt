@@ -3,9 +3,9 @@ use mathlib.Core.Path.{_≡_, refl, sym, ap, ap₂, _∙_}
 use mathlib.Core.Bool.{Bool, true, false}
 use mathlib.Core.List.{List, [], _∷_, _++_}
 use mathlib.Core.Option.{some}
-use Prim.Native.Nat.{ℕ, _*_, _≤_}
+use Prim.Native.Nat.{ℕ, _*_}
 use lib.Dec.{ltb}
-use lib.ListN.{length, take, drop}
+use lib.ListN.{length, drop}
 use lib.IntN.{ℤ}
 use borrow.Author.Tests.{lt-ltb, le-ltb}
 use Rattle.model.specs.Answer.{Row, gate, refused, counted}
@@ -22,21 +22,19 @@ use Rattle.model.specs.declared.Refusal.{Refusal}
 use Rattle.model.specs.declared.Refusal.the-variants.{Room as NoRoom}
 use Rattle.model.specs.declared.Answer.{Answer}
 use Rattle.model.proofs.Gates.{gate-on, gate-off, checked-shut, checked-open}
-use Rattle.cells.specs.Slots.{numbersOf, Room}
-use Rattle.ask.specs.Standing.{Standing}
+use Rattle.cells.specs.Slots.{numbersOf}
 use Rattle.ask.specs.Boxes.{boxed, slotsIn}
 use Rattle.ask.proofs.Listed.{box-listing, box-count}
 use Rattle.rank.specs.Ranking.{itemsAt}
 use Rattle.rank.proofs.Merging.{rank-items, ranked-slots}
 use Rattle.rank.proofs.Shapes.{items-held}
-use Rattle.sound.specs.Parts.{shapeOf}
 use Rattle.book.specs.Gates.{told, pooled}
 use Rattle.desk.specs.Listing.{numbersIn, rankedIn, FilledWith}
 use Rattle.book.specs.declared.gate.Gate.{Gate}
 use Rattle.book.specs.declared.gate.Gate.the-variants.{Open, Shut}
 use Rattle.desk.specs.declared.listing.Filled.{Filled}
-use Rattle.book.proofs.Counts.{taken-long, reads-shut, reads-open}
-use Rattle.book.proofs.Pools.{behind-shut, behind-open, pool-room, pool-standing, pool-stands, pool-rep, pool-distinct}
+use Rattle.book.proofs.Counts.{reads-shut, reads-open}
+use Rattle.book.proofs.Pools.{behind-shut, behind-open, pool-stands, pool-rep, pool-distinct}
 
 module _ (K : ℕ) (ks : List ℤ) where
   -- items that are their slots' are so in the box too
@@ -68,10 +66,6 @@ module _ (K : ℕ) (ks : List ℤ) where
       numbers-flat (rankedIn K ks bs u) ∙ ap (λ (x : List Item). flat (entriesOf x)) (e ∙ ap (rank 0) h)
 
 module _ (h : Head) (ks : List ℤ) (ls : List ℕ) (g : Gate) (is : g ≡ told (gate (pooled h ks ls (h .c)))) where
-  -- what the filling of the room asks, over the fronts of two lists that are long enough
-  pub list-ready : (xs ys : List ℕ) → h .c ≤ length xs → h .c ≤ length ys → g ≡ Open → Room (shapeOf h) (length ks) (length ls) × (((length (take (h .c) xs) ≡ h .c) × (length (take (h .c) ys) ≡ h .c)) × Standing (h .k) ks ls (h .root) 0 (h .c))
-  list-ready xs ys a b o = (pool-room h ks ls (h .c) g is o, ((sym (taken-long (h .c) xs a), sym (taken-long (h .c) ys b)), pool-standing h ks ls (h .c) g is o))
-
   module _ (bs : List Bound) (room : List ℤ) where
     abbrev u : Tree
     u = bookOf h ks ls .tree

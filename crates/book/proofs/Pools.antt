@@ -103,6 +103,10 @@ module _ (h : Head) (ks : List ℤ) (ls : List ℕ) (ns : ℕ) where
     pub pool-standing : Standing (h .k) ks ls (h .root) 0 (h .c)
     pool-standing = record { tree = bookOf h ks ls .tree; stands = pool-stands; few = rw (items-length (bookOf h ks ls .tree), pool-is .count) (few-of h ks ls is-sound) }
 
+    -- what a walk over the whole tree asks
+    pub pool-ready : Room (shapeOf h) (length ks) (length ls) × Standing (h .k) ks ls (h .root) 0 (h .c)
+    pool-ready = (pool-room, pool-standing)
+
   pub pool-refuses : (g : Gate) → g ≡ told (gate (pooled h ks ls ns)) → (r : Refusal) → g ≡ Shut r → gate (pooled h ks ls ns) ≡ some r
   pool-refuses g is r e = told-shut (gate (pooled h ks ls ns)) r (sym is ∙ e)
 

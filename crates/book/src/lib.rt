@@ -73,17 +73,7 @@ pub fn count(head: Head, keys: &[i64], links: &[usize], bounds: [Bound; 4]) -> A
     if let Gate::Shut(why) = g {
         return answer::refused(head, why);
     }
-    let mut slots = [0usize; 4096];
-    let n = ask::boxes::collect(
-        Shape { k, c },
-        head.root,
-        0,
-        bounds,
-        keys,
-        links,
-        &mut slots[..c],
-        0,
-    );
+    let n = desk::spare::count(keys, links, Shape { k, c }, head.root, bounds);
     answer::counted(head, n)
 }
 
@@ -104,18 +94,7 @@ pub fn list(
     if let Gate::Shut(why) = g {
         return answer::refused(head, why);
     }
-    let mut slots = [0usize; 4096];
-    let mut spare = [0usize; 4096];
-    let f = desk::listing::fill(
-        keys,
-        links,
-        Shape { k, c },
-        head.root,
-        bounds,
-        &mut slots[..c],
-        &mut spare[..c],
-        room,
-    );
+    let f = desk::spare::list(keys, links, Shape { k, c }, head.root, bounds, room);
     if f.fits {
         return answer::counted(head, f.count);
     }
@@ -181,8 +160,7 @@ pub fn add(
         return answer::refused(head, Refusal::Full);
     }
     rank::gather::clear(scratch);
-    let mut spare = [0usize; 4096];
-    let after = desk::change::add_one(head, keys, links, scratch, &mut spare[..c], entry);
+    let after = desk::spare::add(head, keys, links, scratch, entry);
     answer::plain(Outcome::Done, after)
 }
 
@@ -199,7 +177,6 @@ pub fn strike(
     ensures links { λ _. ⌜ now (links .exit) ≡ calls.strikeOut head (now (keys .entry)) (now (links .entry)) (now (scratch .entry)) entry .links ⌝ }
     ensures scratch { λ _. ⌜ now (scratch .exit) ≡ calls.strikeOut head (now (keys .entry)) (now (links .entry)) (now (scratch .entry)) entry .scratch ⌝ }
 {
-    let c = head.c;
     let g = gate::pool(head, keys, links, scratch.len());
     if let Gate::Shut(why) = g {
         return answer::refused(head, why);
@@ -208,8 +185,7 @@ pub fn strike(
         return answer::refused(head, Refusal::Missing);
     }
     rank::gather::clear(scratch);
-    let mut spare = [0usize; 4096];
-    let after = desk::change::strike_one(head, keys, links, scratch, &mut spare[..c], entry);
+    let after = desk::spare::strike(head, keys, links, scratch, entry);
     answer::plain(Outcome::Done, after)
 }
 
@@ -224,17 +200,7 @@ pub fn save(head: Head, keys: &[i64], links: &[usize], room: &mut [u8]) -> Answe
     if let Gate::Shut(why) = g {
         return answer::refused(head, why);
     }
-    let mut slots = [0usize; 4096];
-    let mut spare = [0usize; 4096];
-    let p = desk::saving::print(
-        keys,
-        links,
-        Shape { k, c },
-        head.root,
-        &mut slots[..c],
-        &mut spare[..c],
-        room,
-    );
+    let p = desk::spare::save(keys, links, Shape { k, c }, head.root, room);
     if p.fits {
         return answer::wrote(head, p.bytes);
     }
@@ -271,16 +237,7 @@ pub fn take_in(
                 return answer::refused(head, Refusal::Full);
             }
             rank::gather::clear(scratch);
-            let mut spare = [0usize; 4096];
-            let after = desk::taking::put_all(
-                head,
-                keys,
-                links,
-                scratch,
-                &mut spare[..c],
-                text,
-                lines,
-            );
+            let after = desk::spare::take_in(head, keys, links, scratch, text, lines);
             answer::plain(Outcome::Done, after)
         }
     }

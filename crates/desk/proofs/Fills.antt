@@ -55,6 +55,10 @@ module _ (S : Shape) (ks : List ℤ) (ls : List ℕ) (root : ℕ) (bs : List Bou
   pub fill-walks : (xs : List ℕ) → length xs ≡ S .c → (Room S (length ks) (length ls) × (0 < S .k)) × ((0 ≤ length xs) × Standing (S .k) ks ls root 0 (length xs - 0))
   fill-walks xs l = ((m, (let k = m .kLow in omega arith)), (omega arith, record { tree = st .tree; stands = st .stands; few = let f = st .few in omega arith }))
 
+  -- the same over the front of a list that is long enough
+  pub front-walks : (xs : List ℕ) → S .c ≤ length xs → (Room S (length ks) (length ls) × (0 < S .k)) × ((0 ≤ length (take (S .c) xs)) × Standing (S .k) ks ls root 0 (length (take (S .c) xs) - 0))
+  front-walks xs l = fill-walks (take (S .c) xs) (length-take-le (S .c) xs l)
+
   -- the walk left the slots of the box in front
   module _ (xs ys : List ℕ) (n : ℕ) (lx : length xs ≡ S .c) (ly : length ys ≡ length xs) (w : Collected (S .k) ks ls root 0 bs xs ys 0 n) where
     many : (u : Tree) → Stands (S .k) ks ls root 0 u → n ≡ length (slotsIn bs u)

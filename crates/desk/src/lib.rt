@@ -4,5 +4,6 @@ pub mod cut;
 pub mod fresh;
 pub mod listing;
 pub mod saving;
+pub mod spare;
 pub mod step;
 pub mod taking;

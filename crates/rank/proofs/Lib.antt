@@ -1,6 +1,7 @@
 -- Laws of ranking and rebuilding.
 pub mod Sorting
 pub mod Merging
+pub mod Cutting
 pub mod Gathering
 pub mod Shapes
 pub mod Rebuilding

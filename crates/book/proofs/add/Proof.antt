@@ -1,9 +1,6 @@
-use mathlib.Core.Path.{_≡_, sym, ap, _∙_}
-use native.Mathlib.Omega.{arith}
-use lib.ListN.{length, replicate}
-use Rattle.book.proofs.Counts.{taken-long}
+use mathlib.Core.Path.{sym, ap, _∙_}
+use lib.ListN.{replicate}
 use Rattle.desk.proofs.Held.{few-of}
-use Rattle.book.proofs.Pools.{pool-room}
 use Rattle.book.proofs.Written.{sound-pool, scratch-long, not-full, add-shut, add-present, add-full, add-done}
 use borrow.Author.Needs.{needs}
 use Rattle.book.proofs.add.Statement.{statement}
@@ -12,7 +9,7 @@ use Rattle.book.proofs.add.Reads as reads
 use Rattle.book.proofs.add.Lts as lts
 use Rattle.book.proofs.answer.plain.Reads as plain-reads
 use Rattle.book.proofs.answer.refused.Reads as refused-reads
-use Rattle.desk.proofs.change.add_one.Reads as add-one-reads
+use Rattle.desk.proofs.spare.add.Reads as add-reads
 use Rattle.desk.proofs.change.is_there.Reads as is-there-reads
 use Rattle.book.proofs.gate.pool.Reads as pool-reads
 use Rattle.rank.proofs.gather.clear.Reads as clear-reads
@@ -68,14 +65,8 @@ returns-3 c = let s = c .before .before .before .before .before .before .before 
 clear-requires : tie.Need-clear-requires
 clear-requires c κs = search needs
 
-array-borrow-prefix-spare : tie.Need-array-borrow-prefix-spare
-array-borrow-prefix-spare c = let s = c .before .before .before .before .before .before .before .before .before .before .before .before .before .before .before .before .before .before .before .before in let g = c .before .before .before .before .before .before .before .before .before .before .before .before .before .before .before .pool in pool-room (s .args .head) (s .args .keys .now) (s .args .links .now) (length (s .args .scratch .now)) (g .result) (g .ensures) (c .before .before .before .before .before .before .before .before .before .before .before .before .before .enum-told .given .1) .cHigh
-
-slice-aggregate-add-one : tie.Need-slice-aggregate-add-one
-slice-aggregate-add-one c = let s = c .before .before .before .before .before .before .before .before .before .before .before .before .before .before .before .before .before .before .before .before .before in let g = c .before .before .before .before .before .before .before .before .before .before .before .before .before .before .before .before .pool in taken-long (s .args .head .c) _ (pool-room (s .args .head) (s .args .keys .now) (s .args .links .now) (length (s .args .scratch .now)) (g .result) (g .ensures) (c .before .before .before .before .before .before .before .before .before .before .before .before .before .before .enum-told .given .1) .cHigh)
-
-add-one-requires : tie.Need-add-one-requires
-add-one-requires c κs = let s = c .before .before .before .before .before .before .before .before .before .before .before .before .before .before .before .before .before .before .before .before .before in let g = c .before .before .before .before .before .before .before .before .before .before .before .before .before .before .before .before .pool in let p = sound-pool (s .args .head) (s .args .keys .now) (s .args .links .now) (s .args .scratch .now) (g .result) (g .ensures) (c .before .before .before .before .before .before .before .before .before .before .before .before .before .before .enum-told .given .1) in let n = few-of (s .args .head) (s .args .keys .now) (s .args .links .now) (p .good) in ((p, not-full (s .args .head .n) (s .args .head .c) n (c .before .before .before .before .before .before .before .before .if2 .left)), (sym (c .before .before .before .before .before .before .before .before .before .before .before .is-there .ensures) ∙ c .before .before .before .before .before .before .before .before .before .before .if1 .left, (c .before .before .before .before .before .before .clear .ensures ∙ ap (λ n. replicate n 0) (scratch-long (s .args .head) (s .args .keys .now) (s .args .links .now) (s .args .scratch .now) (g .result) (g .ensures) (c .before .before .before .before .before .before .before .before .before .before .before .before .before .before .enum-told .given .1)), sym (taken-long (s .args .head .c) _ (p .room .cHigh)))))
+add-requires : tie.Need-add-requires
+add-requires c κs = let s = c .before .before .before .before .before .before .before .before .before .before .before .before .before .before .before .before .before .before .before .before in let g = c .before .before .before .before .before .before .before .before .before .before .before .before .before .before .before .pool in let p = sound-pool (s .args .head) (s .args .keys .now) (s .args .links .now) (s .args .scratch .now) (g .result) (g .ensures) (c .before .before .before .before .before .before .before .before .before .before .before .before .before .enum-told .given .1) in let n = few-of (s .args .head) (s .args .keys .now) (s .args .links .now) (p .good) in ((p, not-full (s .args .head .n) (s .args .head .c) n (c .before .before .before .before .before .before .before .if2 .left)), (sym (c .before .before .before .before .before .before .before .before .before .before .is-there .ensures) ∙ c .before .before .before .before .before .before .before .before .before .if1 .left, c .before .before .before .before .before .clear .ensures ∙ ap (λ n. replicate n 0) (scratch-long (s .args .head) (s .args .keys .now) (s .args .links .now) (s .args .scratch .now) (g .result) (g .ensures) (c .before .before .before .before .before .before .before .before .before .before .before .before .before .enum-told .given .1))))
 
 plain-requires : tie.Need-plain-requires
 plain-requires c κs = search needs
@@ -90,7 +81,7 @@ same-length-9 : tie.Need-same-length-9
 same-length-9 c = search needs
 
 returns-4 : tie.Need-returns-4
-returns-4 c = let s = c .before .before .before .before .before .before .before .before .before .before .before .before .before .before .before .before .before .before .before .before .before .before .before .before .before .before .before .before .before in let g = c .before .before .before .before .before .before .before .before .before .before .before .before .before .before .before .before .before .before .before .before .before .before .before .before .pool in let y = c .before .before .before .before .before .before .before .add-one in add-done (s .args .head) (s .args .keys .now) (s .args .links .now) (s .args .scratch .now) (s .args .entry) (g .result) (g .ensures) (c .before .before .before .before .before .before .before .before .before .before .before .before .before .before .before .before .before .before .before .before .before .before .enum-told .given .1) (c .before .before .before .before .before .before .before .before .before .before .before .before .before .before .before .before .before .before .before .is-there .result) (c .before .before .before .before .before .before .before .before .before .before .before .before .before .before .before .before .before .before .before .is-there .ensures) (y .result) (y .last .1 .0) (y .last .1 .1 .0) (y .last .1 .1 .1 .0) (c .plain .result) (c .plain .ensures) (y .ensures .1) (c .before .before .before .before .before .before .before .before .before .before .before .before .before .before .before .before .before .before .if1 .left) (c .before .before .before .before .before .before .before .before .before .before .before .before .before .before .before .before .if2 .left) (y .ensures .0)
+returns-4 c = let s = c .before .before .before .before .before .before .before .before .before .before .before .before .before .before .before .before .before .before .before .before .before .before .before .before .before .before .before in let g = c .before .before .before .before .before .before .before .before .before .before .before .before .before .before .before .before .before .before .before .before .before .before .pool in let y = c .before .before .before .before .before .before .add in add-done (s .args .head) (s .args .keys .now) (s .args .links .now) (s .args .scratch .now) (s .args .entry) (g .result) (g .ensures) (c .before .before .before .before .before .before .before .before .before .before .before .before .before .before .before .before .before .before .before .before .enum-told .given .1) (c .before .before .before .before .before .before .before .before .before .before .before .before .before .before .before .before .before .is-there .result) (c .before .before .before .before .before .before .before .before .before .before .before .before .before .before .before .before .before .is-there .ensures) (y .result) (y .last .1 .0) (y .last .1 .1 .0) (y .last .1 .1 .1 .0) (c .plain .result) (c .plain .ensures) (y .ensures .1) (c .before .before .before .before .before .before .before .before .before .before .before .before .before .before .before .before .if1 .left) (c .before .before .before .before .before .before .before .before .before .before .before .before .before .before .if2 .left) (y .ensures .0)
 
 pub add-spec : {M : Type 1} → statement M
 add-spec =
@@ -113,9 +104,7 @@ add-spec =
     same-length-6
     returns-3
     clear-requires
-    array-borrow-prefix-spare
-    slice-aggregate-add-one
-    add-one-requires
+    add-requires
     plain-requires
     same-length-7
     same-length-8

@@ -1,6 +1,5 @@
-use Rattle.book.proofs.Pools.{pool-room}
-use Rattle.book.proofs.Counts.{taken-long}
-use Rattle.book.proofs.Lists.{list-shut, list-ready, list-done, list-short}
+use Rattle.book.proofs.Pools.{pool-ready}
+use Rattle.book.proofs.Lists.{list-shut, list-done, list-short}
 use borrow.Author.Needs.{needs}
 use Rattle.book.proofs.list.Statement.{statement}
 use Rattle.book.proofs.list.Tie as tie
@@ -9,7 +8,7 @@ use Rattle.book.proofs.list.Lts as lts
 use Rattle.book.proofs.answer.counted.Reads as counted-reads
 use Rattle.book.proofs.answer.refused.Reads as refused-reads
 use Rattle.book.proofs.gate.pool.Reads as pool-reads
-use Rattle.desk.proofs.listing.fill.Reads as fill-reads
+use Rattle.desk.proofs.spare.list.Reads as list-reads
 
 pool-requires : tie.Need-pool-requires
 pool-requires c κs = search needs
@@ -26,20 +25,8 @@ returns c = let s = c .before .before .before .before .before .before in let g =
 enum-told : tie.Need-enum-told
 enum-told c = search needs
 
-array-borrow-prefix-slots : tie.Need-array-borrow-prefix-slots
-array-borrow-prefix-slots c = let s = c .before .before .before .before in let g = c .before .before .pool in pool-room (s .args .head) (s .args .keys .now) (s .args .links .now) (s .args .head .c) (g .result) (g .ensures) (c .enum-told .given .1) .cHigh
-
-slice-aggregate-fill : tie.Need-slice-aggregate-fill
-slice-aggregate-fill c = let s = c .before .before .before .before .before in let g = c .before .before .before .pool in taken-long (s .args .head .c) _ (pool-room (s .args .head) (s .args .keys .now) (s .args .links .now) (s .args .head .c) (g .result) (g .ensures) (c .before .enum-told .given .1) .cHigh)
-
-array-borrow-prefix-spare : tie.Need-array-borrow-prefix-spare
-array-borrow-prefix-spare c = let s = c .before .before .before .before .before in let g = c .before .before .before .pool in pool-room (s .args .head) (s .args .keys .now) (s .args .links .now) (s .args .head .c) (g .result) (g .ensures) (c .before .enum-told .given .1) .cHigh
-
-slice-aggregate-fill-2 : tie.Need-slice-aggregate-fill-2
-slice-aggregate-fill-2 c = let s = c .before .before .before .before .before .before in let g = c .before .before .before .before .pool in taken-long (s .args .head .c) _ (pool-room (s .args .head) (s .args .keys .now) (s .args .links .now) (s .args .head .c) (g .result) (g .ensures) (c .before .before .enum-told .given .1) .cHigh)
-
-fill-requires : tie.Need-fill-requires
-fill-requires c κs = let s = c .before .before .before .before .before .before .before in let g = c .before .before .before .before .before .pool in list-ready (s .args .head) (s .args .keys .now) (s .args .links .now) (g .result) (g .ensures) _ _ (pool-room (s .args .head) (s .args .keys .now) (s .args .links .now) (s .args .head .c) (g .result) (g .ensures) (c .before .before .before .enum-told .given .1) .cHigh) (pool-room (s .args .head) (s .args .keys .now) (s .args .links .now) (s .args .head .c) (g .result) (g .ensures) (c .before .before .before .enum-told .given .1) .cHigh) (c .before .before .before .enum-told .given .1)
+list-requires : tie.Need-list-requires
+list-requires c κs = let s = c .before .before .before .before .before in let g = c .before .before .before .pool in pool-ready (s .args .head) (s .args .keys .now) (s .args .links .now) (s .args .head .c) (g .result) (g .ensures) (c .before .enum-told .given .1)
 
 counted-requires : tie.Need-counted-requires
 counted-requires c κs = search needs
@@ -48,7 +35,7 @@ same-length : tie.Need-same-length
 same-length c = search needs
 
 returns-2 : tie.Need-returns-2
-returns-2 c = let s = c .before .before .before .before .before .before .before .before .before .before .before .before .before in let g = c .before .before .before .before .before .before .before .before .before .before .before .pool in let f = c .before .before .before .before .before .fill in list-done (s .args .head) (s .args .keys .now) (s .args .links .now) (g .result) (g .ensures) (s .args .bounds) (s .args .room .now) (c .before .before .before .before .before .before .before .before .before .enum-told .given .1) (f .last .1 .1 .1 .1 .1 .1 .1 .0) (f .result) (f .ensures) (c .before .if1 .taken) (c .counted .result) (c .counted .ensures)
+returns-2 c = let s = c .before .before .before .before .before .before .before .before .before in let g = c .before .before .before .before .before .before .before .pool in let f = c .before .before .before .list in list-done (s .args .head) (s .args .keys .now) (s .args .links .now) (g .result) (g .ensures) (s .args .bounds) (s .args .room .now) (c .before .before .before .before .before .enum-told .given .1) (f .last .1 .1 .1 .1 .1 .0) (f .result) (f .ensures) (c .before .if1 .taken) (c .counted .result) (c .counted .ensures)
 
 refused-requires-2 : tie.Need-refused-requires-2
 refused-requires-2 c κs = search needs
@@ -57,7 +44,7 @@ same-length-2 : tie.Need-same-length-2
 same-length-2 c = search needs
 
 returns-3 : tie.Need-returns-3
-returns-3 c = let s = c .before .before .before .before .before .before .before .before .before .before .before .before .before in let g = c .before .before .before .before .before .before .before .before .before .before .before .pool in let f = c .before .before .before .before .before .fill in list-short (s .args .head) (s .args .keys .now) (s .args .links .now) (g .result) (g .ensures) (s .args .bounds) (s .args .room .now) (c .before .before .before .before .before .before .before .before .before .enum-told .given .1) (f .last .1 .1 .1 .1 .1 .1 .1 .0) (f .result) (f .ensures) (c .before .if1 .left) (c .refused2 .result) (c .refused2 .ensures)
+returns-3 c = let s = c .before .before .before .before .before .before .before .before .before in let g = c .before .before .before .before .before .before .before .pool in let f = c .before .before .before .list in list-short (s .args .head) (s .args .keys .now) (s .args .links .now) (g .result) (g .ensures) (s .args .bounds) (s .args .room .now) (c .before .before .before .before .before .enum-told .given .1) (f .last .1 .1 .1 .1 .1 .0) (f .result) (f .ensures) (c .before .if1 .left) (c .refused2 .result) (c .refused2 .ensures)
 
 pub list-spec : {M : Type 1} → statement M
 list-spec =
@@ -68,11 +55,7 @@ list-spec =
     refused-requires
     returns
     enum-told
-    array-borrow-prefix-slots
-    slice-aggregate-fill
-    array-borrow-prefix-spare
-    slice-aggregate-fill-2
-    fill-requires
+    list-requires
     counted-requires
     same-length
     returns-2

@@ -1,8 +1,6 @@
-use mathlib.Core.Path.{_≡_, sym, ap, _∙_}
-use lib.ListN.{length, replicate}
+use mathlib.Core.Path.{sym, ap, _∙_}
+use lib.ListN.{replicate}
 use borrow.Author.Tests.{not-true, not-false}
-use Rattle.book.proofs.Counts.{taken-long}
-use Rattle.book.proofs.Pools.{pool-room}
 use Rattle.book.proofs.Written.{sound-pool, scratch-long, strike-shut, strike-missing, strike-done}
 use borrow.Author.Needs.{needs}
 use Rattle.book.proofs.strike.Statement.{statement}
@@ -12,7 +10,7 @@ use Rattle.book.proofs.strike.Lts as lts
 use Rattle.book.proofs.answer.plain.Reads as plain-reads
 use Rattle.book.proofs.answer.refused.Reads as refused-reads
 use Rattle.desk.proofs.change.is_there.Reads as is-there-reads
-use Rattle.desk.proofs.change.strike_one.Reads as strike-one-reads
+use Rattle.desk.proofs.spare.strike.Reads as strike-reads
 use Rattle.book.proofs.gate.pool.Reads as pool-reads
 use Rattle.rank.proofs.gather.clear.Reads as clear-reads
 
@@ -55,14 +53,8 @@ returns-2 c = let s = c .before .before .before .before .before .before .before 
 clear-requires : tie.Need-clear-requires
 clear-requires c κs = search needs
 
-array-borrow-prefix-spare : tie.Need-array-borrow-prefix-spare
-array-borrow-prefix-spare c = let s = c .before .before .before .before .before .before .before .before .before .before .before .before .before .before .before .before .before .before in let g = c .before .before .before .before .before .before .before .before .before .before .before .before .before .pool in pool-room (s .args .head) (s .args .keys .now) (s .args .links .now) (length (s .args .scratch .now)) (g .result) (g .ensures) (c .before .before .before .before .before .before .before .before .before .before .before .enum-told .given .1) .cHigh
-
-slice-aggregate-strike-one : tie.Need-slice-aggregate-strike-one
-slice-aggregate-strike-one c = let s = c .before .before .before .before .before .before .before .before .before .before .before .before .before .before .before .before .before .before .before in let g = c .before .before .before .before .before .before .before .before .before .before .before .before .before .before .pool in taken-long (s .args .head .c) _ (pool-room (s .args .head) (s .args .keys .now) (s .args .links .now) (length (s .args .scratch .now)) (g .result) (g .ensures) (c .before .before .before .before .before .before .before .before .before .before .before .before .enum-told .given .1) .cHigh)
-
-strike-one-requires : tie.Need-strike-one-requires
-strike-one-requires c κs = let s = c .before .before .before .before .before .before .before .before .before .before .before .before .before .before .before .before .before .before .before in let g = c .before .before .before .before .before .before .before .before .before .before .before .before .before .before .pool in let p = sound-pool (s .args .head) (s .args .keys .now) (s .args .links .now) (s .args .scratch .now) (g .result) (g .ensures) (c .before .before .before .before .before .before .before .before .before .before .before .before .enum-told .given .1) in (p, (sym (c .before .before .before .before .before .before .before .before .before .is-there .ensures) ∙ not-false (c .before .before .before .before .before .before .before .before .before .is-there .result) (c .before .before .before .before .before .before .before .before .if1 .left), (c .before .before .before .before .before .before .clear .ensures ∙ ap (λ n. replicate n 0) (scratch-long (s .args .head) (s .args .keys .now) (s .args .links .now) (s .args .scratch .now) (g .result) (g .ensures) (c .before .before .before .before .before .before .before .before .before .before .before .before .enum-told .given .1)), sym (taken-long (s .args .head .c) _ (p .room .cHigh)))))
+strike-requires : tie.Need-strike-requires
+strike-requires c κs = let s = c .before .before .before .before .before .before .before .before .before .before .before .before .before .before .before .before .before .before in let g = c .before .before .before .before .before .before .before .before .before .before .before .before .before .pool in let p = sound-pool (s .args .head) (s .args .keys .now) (s .args .links .now) (s .args .scratch .now) (g .result) (g .ensures) (c .before .before .before .before .before .before .before .before .before .before .before .enum-told .given .1) in (p, (sym (c .before .before .before .before .before .before .before .before .is-there .ensures) ∙ not-false (c .before .before .before .before .before .before .before .before .is-there .result) (c .before .before .before .before .before .before .before .if1 .left), c .before .before .before .before .before .clear .ensures ∙ ap (λ n. replicate n 0) (scratch-long (s .args .head) (s .args .keys .now) (s .args .links .now) (s .args .scratch .now) (g .result) (g .ensures) (c .before .before .before .before .before .before .before .before .before .before .before .enum-told .given .1))))
 
 plain-requires : tie.Need-plain-requires
 plain-requires c κs = search needs
@@ -77,7 +69,7 @@ same-length-7 : tie.Need-same-length-7
 same-length-7 c = search needs
 
 returns-3 : tie.Need-returns-3
-returns-3 c = let s = c .before .before .before .before .before .before .before .before .before .before .before .before .before .before .before .before .before .before .before .before .before .before .before .before .before .before .before in let g = c .before .before .before .before .before .before .before .before .before .before .before .before .before .before .before .before .before .before .before .before .before .before .pool in let y = c .before .before .before .before .before .before .before .strike-one in strike-done (s .args .head) (s .args .keys .now) (s .args .links .now) (s .args .scratch .now) (s .args .entry) (g .result) (g .ensures) (c .before .before .before .before .before .before .before .before .before .before .before .before .before .before .before .before .before .before .before .before .enum-told .given .1) (c .before .before .before .before .before .before .before .before .before .before .before .before .before .before .before .before .before .is-there .result) (c .before .before .before .before .before .before .before .before .before .before .before .before .before .before .before .before .before .is-there .ensures) (y .result) (y .last .1 .0) (y .last .1 .1 .0) (y .last .1 .1 .1 .0) (c .plain .result) (c .plain .ensures) (y .ensures .1) (not-false (c .before .before .before .before .before .before .before .before .before .before .before .before .before .before .before .before .before .is-there .result) (c .before .before .before .before .before .before .before .before .before .before .before .before .before .before .before .before .if1 .left)) (y .ensures .0)
+returns-3 c = let s = c .before .before .before .before .before .before .before .before .before .before .before .before .before .before .before .before .before .before .before .before .before .before .before .before .before in let g = c .before .before .before .before .before .before .before .before .before .before .before .before .before .before .before .before .before .before .before .before .pool in let y = c .before .before .before .before .before .before .strike in strike-done (s .args .head) (s .args .keys .now) (s .args .links .now) (s .args .scratch .now) (s .args .entry) (g .result) (g .ensures) (c .before .before .before .before .before .before .before .before .before .before .before .before .before .before .before .before .before .before .enum-told .given .1) (c .before .before .before .before .before .before .before .before .before .before .before .before .before .before .before .is-there .result) (c .before .before .before .before .before .before .before .before .before .before .before .before .before .before .before .is-there .ensures) (y .result) (y .last .1 .0) (y .last .1 .1 .0) (y .last .1 .1 .1 .0) (c .plain .result) (c .plain .ensures) (y .ensures .1) (not-false (c .before .before .before .before .before .before .before .before .before .before .before .before .before .before .before .is-there .result) (c .before .before .before .before .before .before .before .before .before .before .before .before .before .before .if1 .left)) (y .ensures .0)
 
 pub strike-spec : {M : Type 1} → statement M
 strike-spec =
@@ -96,9 +88,7 @@ strike-spec =
     same-length-4
     returns-2
     clear-requires
-    array-borrow-prefix-spare
-    slice-aggregate-strike-one
-    strike-one-requires
+    strike-requires
     plain-requires
     same-length-5
     same-length-6

@@ -1,8 +1,6 @@
-use mathlib.Core.Path.{sym, ap, _∙_}
-use lib.ListN.{length, replicate}
+use mathlib.Core.Path.{ap, _∙_}
+use lib.ListN.{replicate}
 use Rattle.desk.proofs.Held.{few-of}
-use Rattle.book.proofs.Counts.{taken-long}
-use Rattle.book.proofs.Pools.{pool-room}
 use Rattle.book.proofs.Written.{sound-pool, scratch-long}
 use Rattle.book.proofs.TakesIn.{take-shut, take-broken, take-mismatch, take-saves, take-full, take-fits, take-done}
 use borrow.Author.Needs.{needs}
@@ -15,7 +13,7 @@ use Rattle.book.proofs.answer.plain.Reads as plain-reads
 use Rattle.book.proofs.answer.refused.Reads as refused-reads
 use Rattle.book.proofs.gate.pool.Reads as pool-reads
 use Rattle.desk.proofs.taking.count_new.Reads as count-new-reads
-use Rattle.desk.proofs.taking.put_all.Reads as put-all-reads
+use Rattle.desk.proofs.spare.take_in.Reads as take-in-reads
 use Rattle.rank.proofs.gather.clear.Reads as clear-reads
 use Rattle.text.proofs.take_apart.Reads as take-apart-reads
 
@@ -85,14 +83,8 @@ returns-3 c = let s = c .before .before .before .before .before .before .before 
 clear-requires : tie.Need-clear-requires
 clear-requires c κs = search needs
 
-array-borrow-prefix-spare : tie.Need-array-borrow-prefix-spare
-array-borrow-prefix-spare c = let s = c .before .before .before .before .before .before .before .before .before .before .before .before .before .before .before .before .before .before .before .before .before .before .before .before .before in let g = c .before .before .before .before .before .before .before .before .before .before .before .before .before .before .before .before .before .before .before .pool in let o = c .before .before .before .before .before .before .before .before .before .before .before .before .before .before .before .before .before .enum-told .given .1 in let t = c .before .before .before .before .before .before .before .before .before .before .before .before .before .before .before .before .take-apart in let f = c .before .before .before .before .before .before .before .before .before .before .before .before .before .before .fields .given in let e = c .before .before .before .before .before .before .before .before .before .before .before .before .if1 .left in let m = c .before .before .before .before .before .before .before .before .before .count-new in pool-room (s .args .head) (s .args .keys .now) (s .args .links .now) (length (s .args .scratch .now)) (g .result) (g .ensures) o .cHigh
-
-slice-aggregate-put-all : tie.Need-slice-aggregate-put-all
-slice-aggregate-put-all c = let s = c .before .before .before .before .before .before .before .before .before .before .before .before .before .before .before .before .before .before .before .before .before .before .before .before .before .before in let g = c .before .before .before .before .before .before .before .before .before .before .before .before .before .before .before .before .before .before .before .before .pool in let o = c .before .before .before .before .before .before .before .before .before .before .before .before .before .before .before .before .before .before .enum-told .given .1 in let t = c .before .before .before .before .before .before .before .before .before .before .before .before .before .before .before .before .before .take-apart in let f = c .before .before .before .before .before .before .before .before .before .before .before .before .before .before .before .fields .given in let e = c .before .before .before .before .before .before .before .before .before .before .before .before .before .if1 .left in let m = c .before .before .before .before .before .before .before .before .before .before .count-new in taken-long (s .args .head .c) _ (pool-room (s .args .head) (s .args .keys .now) (s .args .links .now) (length (s .args .scratch .now)) (g .result) (g .ensures) o .cHigh)
-
-put-all-requires : tie.Need-put-all-requires
-put-all-requires c κs = let s = c .before .before .before .before .before .before .before .before .before .before .before .before .before .before .before .before .before .before .before .before .before .before .before .before .before .before in let g = c .before .before .before .before .before .before .before .before .before .before .before .before .before .before .before .before .before .before .before .before .pool in let o = c .before .before .before .before .before .before .before .before .before .before .before .before .before .before .before .before .before .before .enum-told .given .1 in let t = c .before .before .before .before .before .before .before .before .before .before .before .before .before .before .before .before .before .take-apart in let f = c .before .before .before .before .before .before .before .before .before .before .before .before .before .before .before .fields .given in let e = c .before .before .before .before .before .before .before .before .before .before .before .before .before .if1 .left in let m = c .before .before .before .before .before .before .before .before .before .before .count-new in ((sound-pool (s .args .head) (s .args .keys .now) (s .args .links .now) (s .args .scratch .now) (g .result) (g .ensures) o, take-saves (s .args .head) (s .args .keys .now) (s .args .links .now) (s .args .scratch .now) (s .args .text .now) (g .result) (g .ensures) o (t .result) (t .ensures) (f .0 .0) (f .0 .1 .0) (f .1) e), (take-fits (s .args .head) (s .args .keys .now) (s .args .links .now) (s .args .scratch .now) (s .args .text .now) (g .result) (g .ensures) o (t .result) (t .ensures) (f .0 .0) (f .0 .1 .0) (f .1) e (m .result) (m .ensures) (c .before .before .before .before .before .before .before .before .if2 .left), (c .before .before .before .before .before .before .clear .ensures ∙ ap (λ n. replicate n 0) (scratch-long (s .args .head) (s .args .keys .now) (s .args .links .now) (s .args .scratch .now) (g .result) (g .ensures) o), sym (taken-long (s .args .head .c) _ (pool-room (s .args .head) (s .args .keys .now) (s .args .links .now) (length (s .args .scratch .now)) (g .result) (g .ensures) o .cHigh)))))
+take-in-requires : tie.Need-take-in-requires
+take-in-requires c κs = let s = c .before .before .before .before .before .before .before .before .before .before .before .before .before .before .before .before .before .before .before .before .before .before .before .before .before in let g = c .before .before .before .before .before .before .before .before .before .before .before .before .before .before .before .before .before .before .before .pool in let o = c .before .before .before .before .before .before .before .before .before .before .before .before .before .before .before .before .before .enum-told .given .1 in let t = c .before .before .before .before .before .before .before .before .before .before .before .before .before .before .before .before .take-apart in let f = c .before .before .before .before .before .before .before .before .before .before .before .before .before .before .fields .given in let e = c .before .before .before .before .before .before .before .before .before .before .before .before .if1 .left in let m = c .before .before .before .before .before .before .before .before .before .count-new in ((sound-pool (s .args .head) (s .args .keys .now) (s .args .links .now) (s .args .scratch .now) (g .result) (g .ensures) o, take-saves (s .args .head) (s .args .keys .now) (s .args .links .now) (s .args .scratch .now) (s .args .text .now) (g .result) (g .ensures) o (t .result) (t .ensures) (f .0 .0) (f .0 .1 .0) (f .1) e), (take-fits (s .args .head) (s .args .keys .now) (s .args .links .now) (s .args .scratch .now) (s .args .text .now) (g .result) (g .ensures) o (t .result) (t .ensures) (f .0 .0) (f .0 .1 .0) (f .1) e (m .result) (m .ensures) (c .before .before .before .before .before .before .before .if2 .left), c .before .before .before .before .before .clear .ensures ∙ ap (λ n. replicate n 0) (scratch-long (s .args .head) (s .args .keys .now) (s .args .links .now) (s .args .scratch .now) (g .result) (g .ensures) o)))
 
 plain-requires : tie.Need-plain-requires
 plain-requires c κs = search needs
@@ -116,7 +108,7 @@ same-length-11 : tie.Need-same-length-11
 same-length-11 c = search needs
 
 returns-5 : tie.Need-returns-5
-returns-5 c = let s = c .before .before .before .before .before .before .before .before .before .before .before .before .before .before .before .before .before .before .before .before .before .before .before .before .before .before .before .before .before .before .before .before .before .before in let g = c .before .before .before .before .before .before .before .before .before .before .before .before .before .before .before .before .before .before .before .before .before .before .before .before .before .before .before .before .pool in let o = c .before .before .before .before .before .before .before .before .before .before .before .before .before .before .before .before .before .before .before .before .before .before .before .before .before .before .enum-told .given .1 in let t = c .before .before .before .before .before .before .before .before .before .before .before .before .before .before .before .before .before .before .before .before .before .before .before .before .before .take-apart in let f = c .before .before .before .before .before .before .before .before .before .before .before .before .before .before .before .before .before .before .before .before .before .before .before .fields .given in let e = c .before .before .before .before .before .before .before .before .before .before .before .before .before .before .before .before .before .before .before .before .before .if1 .left in let m = c .before .before .before .before .before .before .before .before .before .before .before .before .before .before .before .before .before .before .count-new in let y = c .before .before .before .before .before .before .before .put-all in take-done (s .args .head) (s .args .keys .now) (s .args .links .now) (s .args .scratch .now) (s .args .text .now) (g .result) (g .ensures) o (t .result) (t .ensures) (f .0 .0) (f .0 .1 .0) (f .1) e (m .result) (m .ensures) (c .before .before .before .before .before .before .before .before .before .before .before .before .before .before .before .before .if2 .left) (y .result) (y .last .1 .0) (y .last .1 .1 .0) (y .last .1 .1 .1 .0) (c .plain .result) (c .plain .ensures) (y .ensures .1) (y .ensures .0)
+returns-5 c = let s = c .before .before .before .before .before .before .before .before .before .before .before .before .before .before .before .before .before .before .before .before .before .before .before .before .before .before .before .before .before .before .before .before in let g = c .before .before .before .before .before .before .before .before .before .before .before .before .before .before .before .before .before .before .before .before .before .before .before .before .before .before .pool in let o = c .before .before .before .before .before .before .before .before .before .before .before .before .before .before .before .before .before .before .before .before .before .before .before .before .enum-told .given .1 in let t = c .before .before .before .before .before .before .before .before .before .before .before .before .before .before .before .before .before .before .before .before .before .before .before .take-apart in let f = c .before .before .before .before .before .before .before .before .before .before .before .before .before .before .before .before .before .before .before .before .before .fields .given in let e = c .before .before .before .before .before .before .before .before .before .before .before .before .before .before .before .before .before .before .before .if1 .left in let m = c .before .before .before .before .before .before .before .before .before .before .before .before .before .before .before .before .count-new in let y = c .before .before .before .before .before .before .take-in in take-done (s .args .head) (s .args .keys .now) (s .args .links .now) (s .args .scratch .now) (s .args .text .now) (g .result) (g .ensures) o (t .result) (t .ensures) (f .0 .0) (f .0 .1 .0) (f .1) e (m .result) (m .ensures) (c .before .before .before .before .before .before .before .before .before .before .before .before .before .before .if2 .left) (y .result) (y .last .1 .0) (y .last .1 .1 .0) (y .last .1 .1 .1 .0) (c .plain .result) (c .plain .ensures) (y .ensures .1) (y .ensures .0)
 
 pub take-in-spec : {M : Type 1} → statement M
 take-in-spec =
@@ -144,9 +136,7 @@ take-in-spec =
     same-length-6
     returns-3
     clear-requires
-    array-borrow-prefix-spare
-    slice-aggregate-put-all
-    put-all-requires
+    take-in-requires
     plain-requires
     same-length-7
     same-length-8

@@ -1,0 +1,48 @@
+use mathlib.Core.Path.{sym, _∙_}
+use denote.Ref as refs
+use native.Mathlib.Nat.{zero-add}
+use lib.Seq.{length-take-le}
+use Rattle.desk.proofs.Fills.{front-walks}
+use borrow.Author.Needs.{needs}
+use Rattle.desk.proofs.spare.count.Statement.{statement}
+use Rattle.desk.proofs.spare.count.Tie as tie
+use Rattle.desk.proofs.spare.count.Reads as reads
+use Rattle.desk.proofs.spare.count.Lts as lts
+use Rattle.ask.proofs.boxes.collect.Reads as collect-reads
+
+array-borrow-prefix-slots : tie.Need-array-borrow-prefix-slots
+array-borrow-prefix-slots c = search needs
+
+slice-aggregate-collect : tie.Need-slice-aggregate-collect
+slice-aggregate-collect c = let s = c .before .before .before in sym (length-take-le (s .args .shape .c) _ (c .before .if1 .taken))
+
+collect-requires : tie.Need-collect-requires
+collect-requires c κs = let s = c .before .before .before in front-walks (s .args .shape) (refs.now (s .args .keys)) (refs.now (s .args .links)) (s .args .root) (s .args .bounds) (s .pre .0) (s .pre .1) _ (c .before .if1 .taken)
+
+returns : tie.Need-returns
+returns c = λ u st. c .before .collect .ensures .next u st ∙ zero-add _
+
+array-borrow-prefix-slots-2 : tie.Need-array-borrow-prefix-slots-2
+array-borrow-prefix-slots-2 c = search needs
+
+slice-aggregate-collect-2 : tie.Need-slice-aggregate-collect-2
+slice-aggregate-collect-2 c = let s = c .before .before .before in sym (length-take-le (s .args .shape .c) _ (s .pre .0 .cHigh))
+
+collect-requires-2 : tie.Need-collect-requires-2
+collect-requires-2 c κs = let s = c .before .before .before in front-walks (s .args .shape) (refs.now (s .args .keys)) (refs.now (s .args .links)) (s .args .root) (s .args .bounds) (s .pre .0) (s .pre .1) _ (s .pre .0 .cHigh)
+
+returns-2 : tie.Need-returns-2
+returns-2 c = λ u st. c .before .collect2 .ensures .next u st ∙ zero-add _
+
+pub count-spec : {M : Type 1} → statement M
+count-spec =
+    tie.close
+    (tie.spec
+    array-borrow-prefix-slots
+    slice-aggregate-collect
+    collect-requires
+    returns
+    array-borrow-prefix-slots-2
+    slice-aggregate-collect-2
+    collect-requires-2
+    returns-2)

@@ -1,0 +1,197 @@
+// The lists of slots that a call needs beside what it is lent: short ones for a small pool, since clearing long ones would be most of its work.
+use crate::change::add_one;
+use crate::change::strike_one;
+use crate::listing::Filled;
+use crate::listing::fill;
+use crate::saving::Printed;
+use crate::saving::print;
+use crate::taking::put_all;
+use ask::boxes::collect;
+use model::Bound;
+use model::Entry;
+use model::Head;
+use model::Shape;
+ghost use mathlib.Core.Path.{_≡_};
+ghost use mathlib.Core.Bool.{true, false};
+ghost use Prim.Native.Nat.{_+_, _≤_, _<_};
+ghost use lib.ListN.{length, replicate};
+ghost use Rattle.model.specs.Answer.{inward};
+ghost use Rattle.model.specs.Ask.{has, newOf};
+ghost use Rattle.model.specs.Book.{added, struck};
+ghost use Rattle.model.specs.Calls.{addedAll, entriesIn};
+ghost use Rattle.model.specs.Pool.{bookOf};
+ghost use Rattle.model.specs.Rebuild.{listing};
+ghost use Rattle.model.specs.Text.{parse};
+ghost use Rattle.model.specs.Tree.{Tree};
+ghost use Rattle.cells.specs.Slots.{Room};
+ghost use Rattle.ask.specs.Boxes.{slotsIn};
+ghost use Rattle.ask.specs.Standing.{Stands, Standing};
+ghost use Rattle.desk.specs.Changes.{Sound, Became};
+ghost use Rattle.desk.specs.Listing.{FilledWith};
+ghost use Rattle.desk.specs.Saving.{PrintedWith};
+ghost use Rattle.desk.specs.Taking.{Saves};
+
+// The slots of a small pool, and of any.
+const FEW: usize = 256;
+
+const MOST: usize = 4096;
+
+// Adds an entry that is not there to a pool that is not full; returns the head.
+pub fn add(
+    head: Head,
+    keys: &mut [i64],
+    links: &mut [usize],
+    scratch: &mut [usize],
+    entry: Entry,
+) -> Head
+    requires { ⌜ Sound head (now keys) (now links) × (head .n < head .c) ⌝ }
+    requires { ⌜ has (inward (head .k) entry) (listing (bookOf head (now keys) (now links) .tree)) ≡ false ⌝ }
+    requires { ⌜ now scratch ≡ replicate (head .c) 0 ⌝ }
+    ensures pool { λ r. ⌜ Became head (now (keys .exit)) (now (links .exit)) (added (inward (head .k) entry) (bookOf head (now (keys .entry)) (now (links .entry)))) r ⌝ }
+    ensures scratch { λ _. ⌜ now (scratch .exit) ≡ replicate (head .c) 0 ⌝ }
+{
+    let c = head.c;
+    if c <= FEW {
+        let mut spare = [0usize; FEW];
+        return add_one(head, keys, links, scratch, &mut spare[..c], entry);
+    }
+    let mut spare = [0usize; MOST];
+    add_one(head, keys, links, scratch, &mut spare[..c], entry)
+}
+
+// Strikes an entry that is there; returns the head.
+pub fn strike(
+    head: Head,
+    keys: &mut [i64],
+    links: &mut [usize],
+    scratch: &mut [usize],
+    entry: Entry,
+) -> Head
+    requires { ⌜ Sound head (now keys) (now links) ⌝ }
+    requires { ⌜ has (inward (head .k) entry) (listing (bookOf head (now keys) (now links) .tree)) ≡ true ⌝ }
+    requires { ⌜ now scratch ≡ replicate (head .c) 0 ⌝ }
+    ensures pool { λ r. ⌜ Became head (now (keys .exit)) (now (links .exit)) (struck (inward (head .k) entry) (bookOf head (now (keys .entry)) (now (links .entry)))) r ⌝ }
+    ensures scratch { λ _. ⌜ now (scratch .exit) ≡ replicate (head .c) 0 ⌝ }
+{
+    let c = head.c;
+    if c <= FEW {
+        let mut spare = [0usize; FEW];
+        return strike_one(head, keys, links, scratch, &mut spare[..c], entry);
+    }
+    let mut spare = [0usize; MOST];
+    strike_one(head, keys, links, scratch, &mut spare[..c], entry)
+}
+
+// Adds, in text order, what is not yet there; returns the head.
+pub fn take_in(
+    head: Head,
+    keys: &mut [i64],
+    links: &mut [usize],
+    scratch: &mut [usize],
+    text: &[u8],
+    lines: usize,
+) -> Head
+    requires { ⌜ Sound head (now keys) (now links) × Saves (now text) (head .k) lines ⌝ }
+    requires { ⌜ head .n + length (newOf (listing (bookOf head (now keys) (now links) .tree)) (entriesIn (parse (now text)))) ≤ head .c ⌝ }
+    requires { ⌜ now scratch ≡ replicate (head .c) 0 ⌝ }
+    ensures pool { λ r. ⌜ Became head (now (keys .exit)) (now (links .exit)) (addedAll (newOf (listing (bookOf head (now (keys .entry)) (now (links .entry)) .tree)) (entriesIn (parse (now (text .entry))))) (bookOf head (now (keys .entry)) (now (links .entry)))) r ⌝ }
+    ensures scratch { λ _. ⌜ now (scratch .exit) ≡ replicate (head .c) 0 ⌝ }
+{
+    let c = head.c;
+    if c <= FEW {
+        let mut spare = [0usize; FEW];
+        return put_all(head, keys, links, scratch, &mut spare[..c], text, lines);
+    }
+    let mut spare = [0usize; MOST];
+    put_all(head, keys, links, scratch, &mut spare[..c], text, lines)
+}
+
+// How many entries of the tree a box holds.
+pub fn count(keys: &[i64], links: &[usize], shape: Shape, root: usize, bounds: [Bound; 4]) -> usize
+    requires { ⌜ Room shape (length (now keys)) (length (now links)) ⌝ }
+    requires { ⌜ Standing (shape .k) (now keys) (now links) root 0 (shape .c) ⌝ }
+    ensures { λ r. ⌜ ((u : Tree) → Stands (shape .k) (now (keys .entry)) (now (links .entry)) root 0 u → r ≡ length (slotsIn bounds u)) ⌝ }
+{
+    let c = shape.c;
+    if c <= FEW {
+        let mut slots = [0usize; FEW];
+        return collect(shape, root, 0, bounds, keys, links, &mut slots[..c], 0);
+    }
+    let mut slots = [0usize; MOST];
+    collect(shape, root, 0, bounds, keys, links, &mut slots[..c], 0)
+}
+
+// Writes the entries of the box in listing order to the room, where they fit.
+pub fn list(
+    keys: &[i64],
+    links: &[usize],
+    shape: Shape,
+    root: usize,
+    bounds: [Bound; 4],
+    room: &mut [i64],
+) -> Filled
+    requires { ⌜ Room shape (length (now keys)) (length (now links)) ⌝ }
+    requires { ⌜ Standing (shape .k) (now keys) (now links) root 0 (shape .c) ⌝ }
+    ensures { λ r. ⌜ FilledWith (shape .k) (now (keys .entry)) (now (links .entry)) root bounds (now (room .entry)) (now (room .exit)) r ⌝ }
+{
+    let c = shape.c;
+    if c <= FEW {
+        let mut slots = [0usize; FEW];
+        let mut spare = [0usize; FEW];
+        return fill(
+            keys,
+            links,
+            shape,
+            root,
+            bounds,
+            &mut slots[..c],
+            &mut spare[..c],
+            room,
+        );
+    }
+    let mut slots = [0usize; MOST];
+    let mut spare = [0usize; MOST];
+    fill(
+        keys,
+        links,
+        shape,
+        root,
+        bounds,
+        &mut slots[..c],
+        &mut spare[..c],
+        room,
+    )
+}
+
+// Writes the text of the book to the room, where it fits.
+pub fn save(keys: &[i64], links: &[usize], shape: Shape, root: usize, room: &mut [u8]) -> Printed
+    requires { ⌜ Room shape (length (now keys)) (length (now links)) ⌝ }
+    requires { ⌜ Standing (shape .k) (now keys) (now links) root 0 (shape .c) ⌝ }
+    ensures { λ r. ⌜ PrintedWith (shape .k) (now (keys .entry)) (now (links .entry)) root (now (room .entry)) (now (room .exit)) r ⌝ }
+{
+    let c = shape.c;
+    if c <= FEW {
+        let mut slots = [0usize; FEW];
+        let mut spare = [0usize; FEW];
+        return print(
+            keys,
+            links,
+            shape,
+            root,
+            &mut slots[..c],
+            &mut spare[..c],
+            room,
+        );
+    }
+    let mut slots = [0usize; MOST];
+    let mut spare = [0usize; MOST];
+    print(
+        keys,
+        links,
+        shape,
+        root,
+        &mut slots[..c],
+        &mut spare[..c],
+        room,
+    )
+}
