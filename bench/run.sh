@@ -37,6 +37,8 @@ done
 for bytes in 16 48; do
     program histories $bytes
     "$out/histories" >>"$out/lines"
+    program trays $bytes
+    "$out/trays" >>"$out/lines"
 done
 program instructions 16
 valgrind -q --tool=callgrind --instr-atstart=no --callgrind-out-file="$out/count" "$out/instructions" 2>/dev/null

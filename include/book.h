@@ -27,7 +27,7 @@ typedef struct { uint64_t of[4]; } book_steps;
 
 enum book_outcome { BOOK_FOUND = 1, BOOK_ABSENT = 2, BOOK_DONE = 3, BOOK_REFUSED = 4 };
 
-/* Checked in this order, but 9 and 10 come before 7. A refused call writes nothing at all. */
+/* Checked in this order, but 9 and 10 come before 7, and 12 comes after 3. A refused call writes nothing at all. */
 enum book_refusal {
     BOOK_FIELDS = 1,    /* the number of fields, k, is not 1 to 4 */
     BOOK_CAPACITY = 2,  /* the capacity, c, is not 1 to 4,096 */
@@ -39,7 +39,8 @@ enum book_refusal {
     BOOK_ROOM = 8,      /* list, save: the room is shorter than the answer */
     BOOK_TEXT = 9,      /* take in: the text is not a saved book; the answer's line says where, from 1 */
     BOOK_MISMATCH = 10, /* take in: the text has another number of fields than the book */
-    BOOK_STEP = 11      /* nearest: one of the first k steps is 0 */
+    BOOK_STEP = 11,     /* nearest: one of the first k steps is 0 */
+    BOOK_TRAY = 12      /* tray: over 256 items, a length that is no multiple of k + 1, or an item that begins with neither 1 nor 2 */
 };
 
 /* The answer of every call. The outcome is a book_outcome, the refusal a book_refusal, 0 where nothing was refused. The head is the book's from
@@ -54,6 +55,7 @@ typedef struct {
     size_t count;       /* count and list: how many entries */
     size_t bytes;       /* save: the length of the text */
     size_t line;        /* refusal 9: the line */
+    size_t place;       /* a tray refused by one of its items: the item's place, from 1 */
 } book_answer;
 
 /* Every length below is a number of elements, not of bytes. Pointers are not null, also where the length is 0; the lists that one call writes do
@@ -97,6 +99,12 @@ book_answer book_save(book_head head, const int64_t *keys, size_t keys_len, cons
    1 to 4, then 9 with the line, 10 or 7. */
 book_answer book_take_in(book_head head, int64_t *keys, size_t keys_len, size_t *links, size_t links_len, size_t *scratch, size_t scratch_len,
                          const uint8_t *text, size_t text_len);
+
+/* Works a tray of up to 256 items in order, whole or not at all; scratch as in add. An item is k + 1 numbers: 1 to add or 2 to strike, then the
+   entry's fields. It leaves the book as the single calls in that order would; an empty tray changes only scratch, to 0. Done, or refused 1 to 3,
+   12 or 4; or 5, 6 or 7 with the place of the first item whose single call would be refused so. */
+book_answer book_tray(book_head head, int64_t *keys, size_t keys_len, size_t *links, size_t links_len, size_t *scratch, size_t scratch_len,
+                      const int64_t *items, size_t items_len);
 
 #ifdef __cplusplus
 }

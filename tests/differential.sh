@@ -7,7 +7,7 @@ folder=tests/differential/target
 build() { cargo build --release --offline --quiet --manifest-path tests/differential/Cargo.toml "$@"; }
 slips() { # faults put in on purpose: each must be found and its history cut down
     build --features slips --target-dir "$folder/slips" || return 1
-    for slip in 1 2 3 4 5 6 7 8 9 10 11; do
+    for slip in 1 2 3 4 5 6 7 8 9 10 11 12; do
         "$folder/slips/release/differential" --histories 32 --slip "$slip" >"$log"
         [ $? -eq 1 ] && grep '^cut down' "$log" || { echo "slip $slip was not found"; return 1; }
     done

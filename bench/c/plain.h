@@ -1,4 +1,4 @@
-// The nine calls in plain C, over the same lent memory and with the same answers. `judged` says whether the pool is judged first, as the book does.
+// The ten calls in plain C, over the same lent memory and with the same answers. `judged` says whether the pool is judged first, as the book does.
 #ifndef PLAIN_H
 #define PLAIN_H
 #include "book.h"
@@ -20,4 +20,5 @@ book_answer plain_add(plain_pool *p, int judged, book_entry entry);
 book_answer plain_strike(plain_pool *p, int judged, book_entry entry);
 book_answer plain_save(const plain_pool *p, int judged, uint8_t *room, size_t room_len);
 book_answer plain_take_in(plain_pool *p, int judged, const uint8_t *text, size_t text_len);
+book_answer plain_tray(plain_pool *p, int judged, const int64_t *items, size_t items_len);
 #endif

@@ -1,14 +1,16 @@
-// Run under callgrind: passes, look-ups and take-ins, each dumped under its row, its part of the ratio and its place in the table.
+// Run under callgrind: passes, look-ups, take-ins and trays, each dumped under its row, its part of the ratio and its place in the table.
 #include "orders.h"
 #include "pools.h"
 #include <stdio.h>
+#include <string.h>
 #include <valgrind/callgrind.h>
 
-enum { MOST = 4096, FEW = 512, LOOKS = 64, LONGEST = 64 + 92 * MOST };
+enum { MOST = 4096, FEW = 512, LOOKS = 64, ITEMS = 256, LONGEST = 64 + 92 * MOST };
 
 static plain_pool pool;
 static book_entry entries[MOST];
 static uint8_t text[LONGEST];
+static int64_t items[5 * ITEMS];
 static size_t text_len;
 
 static void counted(const char *row, const char *part, int order, size_t n, void (*run)(void)) {
@@ -37,6 +39,14 @@ static void our_take_in(void) { book_take_in(WRITE_PARTS(&pool), text, text_len)
 
 static void plain_takes_in(void) { plain_take_in(&pool, 1, text, text_len); }
 
+static void our_tray(void) { book_tray(WRITE_PARTS(&pool), items, 5 * ITEMS); }
+
+static void plain_trays(void) { plain_tray(&pool, 1, items, 5 * ITEMS); }
+
+static void our_adds(void) {
+    for (size_t i = MOST - ITEMS; i < MOST; i++) pool.head = book_add(WRITE_PARTS(&pool), entries[i]).head;
+}
+
 static void fill(int order, size_t n) {
     pool = new_pool(4, n);
     make_entries(order, 4, n, entries);
@@ -63,9 +73,31 @@ static void count_taking_in(const char *part, size_t n) {
     drop_pool(&pool);
 }
 
+static void count_tray(const char *row, const char *part, int order, void (*run)(void)) {
+    plain_start(&pool, 4, MOST);
+    fill_pool(&pool, entries, MOST - ITEMS);
+    counted(row, part, order, MOST, run);
+}
+
+// 256 adds into 3,840 entries.
+static void count_trays(int order) {
+    pool = new_pool(4, MOST);
+    make_entries(order, 4, MOST, entries);
+    for (size_t i = 0; i < ITEMS; i++) {
+        items[5 * i] = 1;
+        memcpy(items + 5 * i + 1, entries[MOST - ITEMS + i].f, sizeof entries[i].f);
+    }
+    count_tray("a tray of 256 adds into 3,840 entries, instructions: ours / our single adds", "over", order, our_tray);
+    count_tray("a tray of 256 adds into 3,840 entries, instructions: ours / our single adds", "under", order, our_adds);
+    count_tray("a tray of 256 adds into 3,840 entries, instructions: ours / C", "over", order, our_tray);
+    count_tray("a tray of 256 adds into 3,840 entries, instructions: ours / C", "under", order, plain_trays);
+    drop_pool(&pool);
+}
+
 int main(void) {
     for (int order = 0; order < ORDERS; order++) for (size_t n = 64; n <= MOST; n *= 8) count_asking(order, n);
     count_taking_in("over", MOST);
     count_taking_in("under", FEW);
+    for (int order = 0; order < ORDERS; order++) count_trays(order);
     return 0;
 }

@@ -1,4 +1,4 @@
-// A small book from C: three tightenings added, asked for, one struck, and the rest saved as text.
+// A small book from C: three tightenings added, asked for, one struck, a tray worked, and the rest saved as text.
 #include "book.h"
 #include <stdio.h>
 #include <stdlib.h>
@@ -54,6 +54,12 @@ int main(void) {
     printf("struck 2:4, entries %zu\n", head.n);
     look_up(3, 7);
     look_up(2, 4);
+
+    int64_t items[] = {1, 5, 5, 2, 1, 9, 2, 1, 9};
+    book_answer wrong = book_tray(head, keys, FIELDS * SLOTS, links, 3 * SLOTS, scratch, SLOTS, items, 9);
+    printf("a tray that strikes 1:9 twice: refused %zu, item %zu\n", wrong.refusal, wrong.place);
+    keep("tray", book_tray(head, keys, FIELDS * SLOTS, links, 3 * SLOTS, scratch, SLOTS, items, 6));
+    printf("added 5:5 and struck 1:9, entries %zu\n", head.n);
 
     uint8_t text[256];
     book_answer saved = keep("save", book_save(head, keys, FIELDS * SLOTS, links, 3 * SLOTS, text, sizeof text));

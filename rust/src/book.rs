@@ -43,7 +43,7 @@ macro_rules! change {
 /// The answer of an accepted call.
 fn accepted(answer: Answer) -> Result<Answer, Refusal> {
     match answer.outcome {
-        REFUSED => Err(Refusal::of(answer.refusal, answer.line)),
+        REFUSED => Err(Refusal::of(answer.refusal, answer.line, answer.place)),
         _ => Ok(answer),
     }
 }
@@ -82,7 +82,7 @@ impl<'a> Book<'a> {
         };
         match number {
             0 => Ok(Book { head, keys, links }),
-            _ => Err(Refusal::of(number, 0)),
+            _ => Err(Refusal::of(number, 0, 0)),
         }
     }
 
@@ -176,5 +176,11 @@ impl<'a> Book<'a> {
     /// Refused 3, 9 with the line, 10 or 7.
     pub fn take_in(&mut self, scratch: &mut [usize], text: &[u8]) -> Result<(), Refusal> {
         change!(self, scratch, book_take_in, text.as_ptr(), text.len())
+    }
+
+    /// Works a tray in order, whole or not at all; scratch as in [add](Book::add). An item is K+1 numbers: 1 to add or 2 to strike, then the
+    /// entry's fields. Refused 3 or 12, or as the first item whose single call would be refused.
+    pub fn tray(&mut self, scratch: &mut [usize], items: &[i64]) -> Result<(), Refusal> {
+        change!(self, scratch, book_tray, items.as_ptr(), items.len())
     }
 }

@@ -56,6 +56,7 @@ pub struct Answer {
     pub count: usize,
     pub bytes: usize,
     pub line: usize,
+    pub place: usize,
 }
 
 // Outcomes that a caller tells apart; the third is done.
@@ -153,5 +154,16 @@ extern "C" {
         scratch_len: usize,
         text: *const u8,
         text_len: usize,
+    ) -> Answer;
+    pub fn book_tray(
+        head: Head,
+        keys: *mut i64,
+        keys_len: usize,
+        links: *mut usize,
+        links_len: usize,
+        scratch: *mut usize,
+        scratch_len: usize,
+        items: *const i64,
+        items_len: usize,
     ) -> Answer;
 }

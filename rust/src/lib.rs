@@ -37,5 +37,5 @@ mod refusal;
 mod types;
 
 pub use book::Book;
-pub use refusal::Refusal;
+pub use refusal::{Refusal, Wrong};
 pub use types::{Bound, Entry, Head, LookUp, Near, Place};

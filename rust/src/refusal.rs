@@ -30,6 +30,47 @@ pub enum Refusal {
     Mismatch,
     /// 11: one of the first K steps is 0.
     Step,
+    /// 12: over 256 items, a length that is no multiple of K+1, or an item that begins with neither 1 nor 2.
+    Tray,
+    /// 5, 6 or 7: the first item of a tray whose single call would be refused so.
+    Item {
+        /// The item's place, from 1.
+        place: usize,
+        /// What is wrong with it.
+        wrong: Wrong,
+    },
+}
+
+/// What is wrong with an item of a tray, in the book as the items before it leave it.
+#[derive(Clone, Copy, Debug, PartialEq, Eq)]
+pub enum Wrong {
+    /// 5: the entry to add is there.
+    Present,
+    /// 6: the entry to strike is not there.
+    Missing,
+    /// 7: there is no free slot.
+    Full,
+}
+
+impl Wrong {
+    /// The number in the library's table of refusals.
+    pub fn number(self) -> usize {
+        match self {
+            Wrong::Present => 5,
+            Wrong::Missing => 6,
+            Wrong::Full => 7,
+        }
+    }
+
+    /// What a number that the library answered for an item says.
+    fn of(number: usize) -> Wrong {
+        match number {
+            5 => Wrong::Present,
+            6 => Wrong::Missing,
+            7 => Wrong::Full,
+            _ => unreachable!("the library refuses an item with 5, 6 or 7"),
+        }
+    }
 }
 
 impl Refusal {
@@ -47,11 +88,17 @@ impl Refusal {
             Refusal::Text { .. } => 9,
             Refusal::Mismatch => 10,
             Refusal::Step => 11,
+            Refusal::Tray => 12,
+            Refusal::Item { wrong, .. } => wrong.number(),
         }
     }
 
-    /// The refusal of a number that the library answered.
-    pub(crate) fn of(number: usize, line: usize) -> Refusal {
+    /// The refusal of a number that the library answered, with the line or the place beside it.
+    pub(crate) fn of(number: usize, line: usize, place: usize) -> Refusal {
+        if place > 0 {
+            let wrong = Wrong::of(number);
+            return Refusal::Item { place, wrong };
+        }
         match number {
             1 => Refusal::Fields,
             2 => Refusal::Capacity,
@@ -64,7 +111,8 @@ impl Refusal {
             9 => Refusal::Text { line },
             10 => Refusal::Mismatch,
             11 => Refusal::Step,
-            _ => unreachable!("the library's refusals are 1 to 11"),
+            12 => Refusal::Tray,
+            _ => unreachable!("the library's refusals are 1 to 12"),
         }
     }
 }
@@ -73,6 +121,9 @@ impl fmt::Display for Refusal {
     fn fmt(&self, out: &mut fmt::Formatter) -> fmt::Result {
         match self {
             Refusal::Text { line } => write!(out, "refused=9 line={line}"),
+            Refusal::Item { place, wrong } => {
+                write!(out, "refused={} place={place}", wrong.number())
+            }
             other => write!(out, "refused={}", other.number()),
         }
     }

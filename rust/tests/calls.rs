@@ -1,6 +1,6 @@
 //! Every call through the package: its answers, its refusals, and that a refused call changes nothing.
 
-use bench_book::{Book, Bound, Entry, Head, Refusal};
+use bench_book::{Book, Bound, Entry, Head, Refusal, Wrong};
 
 const ALL: [Bound; 4] = [Bound::Free; 4];
 const ONES: [u64; 4] = [1; 4];
@@ -153,4 +153,56 @@ fn a_saved_book_only_adds() {
         book.take_in(&mut scratch, b"book=1 fields=2 entries=1\na=9 b=09\n"),
         Err(Refusal::Text { line: 2 })
     );
+}
+
+#[test]
+fn a_tray_is_worked_as_its_items_are() {
+    let (mut keys, mut links) = ([0; 6], [0; 9]);
+    let mut book = three(&mut keys, &mut links);
+    let mut scratch = [7; 3];
+    assert_eq!(book.tray(&mut scratch, &[]), Ok(()));
+    assert_eq!((book.len(), scratch), (3, [0; 3]));
+    let items = [2, 2, 4, 2, 1, 9, 1, 8, 8, 1, 2, 4];
+    assert_eq!(book.tray(&mut scratch, &items), Ok(()));
+    let tray = book.head();
+    let (mut keys, mut links) = ([0; 6], [0; 9]);
+    let mut singly = three(&mut keys, &mut links);
+    singly.strike(&mut scratch, [2, 4]).unwrap();
+    singly.strike(&mut scratch, [1, 9]).unwrap();
+    singly.add(&mut scratch, [8, 8]).unwrap();
+    singly.add(&mut scratch, [2, 4]).unwrap();
+    assert_eq!(tray, singly.head());
+    let entry = singly.look_up([8, 8]).unwrap();
+    assert_eq!(book.look_up([8, 8]), Ok(entry));
+}
+
+#[test]
+fn a_refused_tray_names_its_first_wrong_item_and_changes_nothing() {
+    let (mut keys, mut links) = ([0; 6], [0; 9]);
+    let mut book = three(&mut keys, &mut links);
+    let (head, mut scratch) = (book.head(), [7; 3]);
+    let at = |place, wrong| Err(Refusal::Item { place, wrong });
+    let strike_twice = [2, 2, 4, 2, 2, 4, 1, 1, 9];
+    assert_eq!(
+        book.tray(&mut scratch, &strike_twice),
+        at(2, Wrong::Missing)
+    );
+    let back_and_again = [2, 2, 4, 1, 2, 4, 1, 2, 4];
+    assert_eq!(
+        book.tray(&mut scratch, &back_and_again),
+        at(3, Wrong::Present)
+    );
+    assert_eq!(book.tray(&mut scratch, &[1, 5, 5]), at(1, Wrong::Full));
+    let refusals = [
+        book.tray(&mut scratch[..2], &[]),
+        book.tray(&mut scratch, &[1, 5]),
+        book.tray(&mut scratch, &[3, 5, 5]),
+        book.tray(&mut scratch, &[1; 771]),
+        book.tray(&mut scratch, &[1; 768]),
+    ];
+    let numbers = refusals.map(|refused| refused.unwrap_err().number());
+    assert_eq!(numbers, [3, 12, 12, 12, 7]);
+    let why = book.tray(&mut scratch, &[1, 1, 9]).unwrap_err();
+    assert_eq!(why.to_string(), "refused=5 place=1");
+    assert_eq!((book.head(), scratch), (head, [7; 3]));
 }

@@ -16,7 +16,7 @@ use Rattle.model.specs.declared.Outcome.the-variants.{Refused}
 use Rattle.model.specs.Gate.{rows3, sized}
 use Rattle.model.specs.declared.Shape.{Shape}
 use Rattle.model.specs.declared.Refusal.{Refusal}
-use Rattle.model.specs.declared.Refusal.the-variants.{Fields, Capacity, Lengths, Unsound, Present, Missing, Full, Text, Mismatch, Step}
+use Rattle.model.specs.declared.Refusal.the-variants.{Fields, Capacity, Lengths, Unsound, Present, Missing, Full, Text, Mismatch, Step, Tray}
 use Rattle.model.specs.declared.Refusal as refusals
 use Rattle.model.proofs.Trees.{both, pair}
 use Rattle.model.proofs.Gates.{gate-on, gate-off, gate-none}
@@ -133,6 +133,7 @@ no-line refusals.the-variants.Room = refl
 no-line Text = refl
 no-line Mismatch = refl
 no-line Step = refl
+no-line Tray = refl
 
 pub refuses : (h : Head) (r : Refusal) → plain (Refused r) h ≡ refused h 0 r
-refuses h r = ap (λ l. record { outcome = Refused r; head = h; entry = outward []; slot = 0; reads = 0; distance = 0; count = 0; bytes = 0; line = l }) (sym (no-line r))
+refuses h r = ap (λ l. record { outcome = Refused r; head = h; entry = outward []; slot = 0; reads = 0; distance = 0; count = 0; bytes = 0; line = l; place = 0 }) (sym (no-line r))

@@ -8,4 +8,5 @@ pub mod Pools
 pub mod Saves
 pub mod Starts
 pub mod TakesIn
+pub mod Trays
 pub mod Written

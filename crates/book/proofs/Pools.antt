@@ -47,6 +47,13 @@ behind-open ((c, q) ∷ rows) more e = go c e (behind-open rows more)
     go true h f = let z : _≡_ {A = ℕ} 0 1 = cc in absurd (omega arith)
     go false h f = f h
 
+pub rows-open : (rows more : List Row) → gate (rows ++ more) ≡ none → gate rows ≡ none
+rows-open rows more q = go (gate rows) refl
+  where
+    go : (x : Option Refusal) → gate rows ≡ x → gate rows ≡ none
+    go none e = e
+    go (some r) e = let s : some r ≡ none = sym (behind-shut rows more r e) ∙ q in let z : _≡_ {A = ℕ} 0 1 = cc in absurd (omega arith)
+
 module _ (h : Head) (ks : List ℤ) (ls : List ℕ) (ns : ℕ) where
   abbrev front : List Row
   front = rows3 (h .k) (h .c) (fitting (h .k) (h .c) (length ks) (length ls) ns)
@@ -69,11 +76,7 @@ module _ (h : Head) (ks : List ℤ) (ls : List ℕ) (ns : ℕ) where
     all-open = told-open (gate (pooled h ks ls ns)) (sym is ∙ o)
 
     pub front-open : gate front ≡ none
-    front-open = go (gate front) refl
-      where
-        go : (x : Option Refusal) → gate front ≡ x → gate front ≡ none
-        go none e = e
-        go (some r) e = let q : some r ≡ none = sym (behind-shut front back r e) ∙ all-open in let z : _≡_ {A = ℕ} 0 1 = cc in absurd (omega arith)
+    front-open = rows-open front back all-open
 
     pub is-sound : sound h ks ls ≡ true
     is-sound = not-false (sound h ks ls) (go (not (sound h ks ls)) (sym (behind-open front back front-open) ∙ all-open))

@@ -79,7 +79,7 @@ module _ (h : Head) (ks : List ℤ) (ls sc text : List ℕ) (g : Gate) (is : g �
   take-shut r q x f =
       let e = pool-refuses h ks ls (length sc) g is r q in
       let l : lineIn r 0 ≡ lineIn r (brokenAt p) = row-of (λ y. lineIn y 0 ≡ lineIn y (brokenAt p)) (rows4s h ks ls sc) r (refl, (refl, (refl, (refl, tt)))) e in
-      take-refuses r (behind-shut (rows4s h ks ls sc) rows r e) x (f ∙ (λ i. record { outcome = Refused r; head = h; entry = outward []; slot = 0; reads = 0; distance = 0; count = 0; bytes = 0; line = l i }))
+      take-refuses r (behind-shut (rows4s h ks ls sc) rows r e) x (f ∙ (λ i. record { outcome = Refused r; head = h; entry = outward []; slot = 0; reads = 0; distance = 0; count = 0; bytes = 0; line = l i; place = 0 }))
 
   module _ (o : g ≡ Open) (t : Saved) (ts : t ≡ summed p) where
     pub take-broken : (l : ℕ) → t ≡ Broken l → (x : Answer) → x ≡ refused h l Text → Leaves (takeIn h ks ls sc text) x ks ls sc

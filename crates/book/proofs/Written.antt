@@ -35,8 +35,11 @@ use Rattle.book.proofs.Pools.{behind-shut, behind-open, all-open, pool-
 abbrev pub Leaves : After → Answer → List ℤ → List ℕ → List ℕ → Type 0
 Leaves a r ks ls sc = (r ≡ a .answer) × ((ks ≡ a .keys) × ((ls ≡ a .links) × (sc ≡ a .scratch)))
 
+pub leaves-kept : (a : After) (y : Answer) (ks : List ℤ) (ls sc : List ℕ) (x : Answer) → a ≡ leaving y ks ls sc → x ≡ y → Leaves a x ks ls sc
+leaves-kept a y ks ls sc x e f = (f ∙ sym (ap (λ (z : After). z .answer) e), (sym (ap (λ (z : After). z .keys) e), (sym (ap (λ (z : After). z .links) e), sym (ap (λ (z : After). z .scratch) e))))
+
 pub leaves-shut : (a : After) (h : Head) (l : ℕ) (ks : List ℤ) (ls sc : List ℕ) (r : Refusal) (x : Answer) → a ≡ leaving (refused h l r) ks ls sc → x ≡ refused h l r → Leaves a x ks ls sc
-leaves-shut a h l ks ls sc r x e f = (f ∙ sym (ap (λ (z : After). z .answer) e), (sym (ap (λ (z : After). z .keys) e), (sym (ap (λ (z : After). z .links) e), sym (ap (λ (z : After). z .scratch) e))))
+leaves-shut a h l ks ls sc r x e f = leaves-kept a (refused h l r) ks ls sc x e f
 
 pub leaves-done : (a : After) (h r : Head) (b : Book) (ks : List ℤ) (ls sc : List ℕ) (x : Answer) → a ≡ writing h b → Became h ks ls b r → x ≡ plain Done r → sc ≡ replicate (h .c) 0 → Leaves a x ks ls sc
 leaves-done a h r b ks ls sc x e w f z =

@@ -22,6 +22,7 @@ pub fn plain(outcome: Outcome, head: Head) -> Answer
         count: 0,
         bytes: 0,
         line: 0,
+        place: 0,
     }
 }
 
@@ -46,6 +47,25 @@ pub fn broken(head: Head, line: usize) -> Answer
         count: 0,
         bytes: 0,
         line,
+        place: 0,
+    }
+}
+
+// The refusal of an item of a tray tells its place too.
+pub fn refused_at(head: Head, place: usize, why: Refusal) -> Answer
+    ensures { λ r. ⌜ r ≡ answers.refusedAt head place why ⌝ }
+{
+    Answer {
+        outcome: Outcome::Refused(why),
+        head,
+        entry: Entry { f: [0i64; 4] },
+        slot: 0,
+        reads: 0,
+        distance: 0,
+        count: 0,
+        bytes: 0,
+        line: 0,
+        place,
     }
 }
 
@@ -63,6 +83,7 @@ pub fn met(head: Head, entry: Entry, slot: usize, reads: usize) -> Answer
         count: 0,
         bytes: 0,
         line: 0,
+        place: 0,
     }
 }
 
@@ -79,6 +100,7 @@ pub fn unmet(head: Head, reads: usize) -> Answer
         count: 0,
         bytes: 0,
         line: 0,
+        place: 0,
     }
 }
 
@@ -96,6 +118,7 @@ pub fn close(head: Head, entry: Entry, slot: usize, distance: u64) -> Answer
         count: 0,
         bytes: 0,
         line: 0,
+        place: 0,
     }
 }
 
@@ -113,6 +136,7 @@ pub fn counted(head: Head, count: usize) -> Answer
         count,
         bytes: 0,
         line: 0,
+        place: 0,
     }
 }
 
@@ -130,5 +154,6 @@ pub fn wrote(head: Head, bytes: usize) -> Answer
         count: 0,
         bytes,
         line: 0,
+        place: 0,
     }
 }

@@ -1,10 +1,10 @@
-// The one gate: refusals 1 to 3 from the sizes, then 4 from the pool.
+// The one gate: refusals 1 to 3 from the sizes, then 12 from the items of a tray, then 4 from the pool.
 use model::Head;
 use model::Refusal;
 ghost use mathlib.Core.Path.{_≡_};
 ghost use Rattle.model.specs.Answer.{gate};
 ghost use Rattle.model.specs.Gate.{rows3};
-ghost use Rattle.book.specs.Gates.{told, fitting, pooled};
+ghost use Rattle.book.specs.Gates.{told, fitting, pooled, handed};
 
 // Whether a call is let in.
 pub enum Gate {
@@ -48,6 +48,26 @@ pub fn pool(head: Head, keys: &[i64], links: &[usize], scratch: usize) -> Gate
     match g {
         Gate::Shut(why) => Gate::Shut(why),
         Gate::Open => {
+            if sound::is_sound(head, keys, links) {
+                Gate::Open
+            } else {
+                Gate::Shut(Refusal::Unsound)
+            }
+        }
+    }
+}
+
+// Rows 1 to 3, 12 and 4: where the sizes are right the items are looked through, and then the pool is judged.
+pub fn tray(head: Head, keys: &[i64], links: &[usize], scratch: usize, items: &[i64]) -> Gate
+    ensures { λ r. ⌜ r ≡ told (gate (handed head (now (keys .entry)) (now (links .entry)) scratch (now (items .entry)))) ⌝ }
+{
+    let g = sizes(head.k, head.c, keys.len(), links.len(), scratch);
+    match g {
+        Gate::Shut(why) => Gate::Shut(why),
+        Gate::Open => {
+            if !desk::items::trayed(items, head.k) {
+                return Gate::Shut(Refusal::Tray);
+            }
             if sound::is_sound(head, keys, links) {
                 Gate::Open
             } else {

@@ -15,6 +15,9 @@ ghost use Rattle.model.specs.Calls as calls;
 
 pub mod answer;
 pub mod gate;
+mod batch; // batch.rt: many adds and strikes in one call
+
+pub use batch::tray;
 
 // A fresh pool over whatever the memory held.
 pub fn start(k: usize, c: usize, keys: &mut [i64], links: &mut [usize]) -> Answer

@@ -48,7 +48,7 @@ once-from (e ∷ es) (o, os) zero l = o
 once-from (e ∷ es) (o, os) (suc i) l = once-from es os i (omega arith)
 
 -- an entry that was read goes in as it stood
-back-in : (K : ℕ) (e : Entry) (x : Four) → length e ≡ K → x ≡ outward e → inward K x ≡ e
+pub back-in : (K : ℕ) (e : Entry) (x : Four) → length e ≡ K → x ≡ outward e → inward K x ≡ e
 back-in K e x n q = ap (inward K) q ∙ ap (λ m. take m (e ++ replicate (4 - length e) (pos 0))) (sym n) ∙ go e (replicate (4 - length e) (pos 0))
   where
     go : (a b : List ℤ) → take (length a) (a ++ b) ≡ a

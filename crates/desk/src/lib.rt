@@ -2,8 +2,11 @@
 pub mod change;
 pub mod cut;
 pub mod fresh;
+pub mod items;
+pub mod judging;
 pub mod listing;
 pub mod saving;
 pub mod spare;
 pub mod step;
 pub mod taking;
+pub mod working;

@@ -6,6 +6,7 @@ use crate::listing::fill;
 use crate::saving::Printed;
 use crate::saving::print;
 use crate::taking::put_all;
+use crate::working::work_all;
 use ask::boxes::collect;
 use model::Bound;
 use model::Entry;
@@ -13,15 +14,18 @@ use model::Head;
 use model::Shape;
 ghost use mathlib.Core.Path.{_≡_};
 ghost use mathlib.Core.Bool.{true, false};
+ghost use mathlib.Core.Option.{none};
 ghost use Prim.Native.Nat.{_+_, _≤_, _<_};
 ghost use lib.ListN.{length, replicate};
 ghost use Rattle.model.specs.Answer.{inward};
 ghost use Rattle.model.specs.Ask.{has, newOf};
 ghost use Rattle.model.specs.Book.{added, struck};
 ghost use Rattle.model.specs.Calls.{addedAll, entriesIn};
+ghost use Rattle.model.specs.Laws.{firstWrong, workedAll};
 ghost use Rattle.model.specs.Pool.{bookOf};
 ghost use Rattle.model.specs.Rebuild.{listing};
 ghost use Rattle.model.specs.Text.{parse};
+ghost use Rattle.model.specs.Tray.{works};
 ghost use Rattle.model.specs.Tree.{Tree};
 ghost use Rattle.cells.specs.Slots.{Room};
 ghost use Rattle.ask.specs.Boxes.{slotsIn};
@@ -104,6 +108,29 @@ pub fn take_in(
     }
     let mut spare = [0usize; MOST];
     put_all(head, keys, links, scratch, &mut spare[..c], text, lines)
+}
+
+// Works every item of a tray, where none is wrong; returns the head.
+pub fn work(
+    head: Head,
+    keys: &mut [i64],
+    links: &mut [usize],
+    scratch: &mut [usize],
+    items: &[i64],
+) -> Head
+    requires { ⌜ Sound head (now keys) (now links) ⌝ }
+    requires { ⌜ firstWrong (head .c) 1 (works (head .k) (now items)) (bookOf head (now keys) (now links)) ≡ none ⌝ }
+    requires { ⌜ now scratch ≡ replicate (head .c) 0 ⌝ }
+    ensures pool { λ r. ⌜ Became head (now (keys .exit)) (now (links .exit)) (workedAll (works (head .k) (now (items .entry))) (bookOf head (now (keys .entry)) (now (links .entry)))) r ⌝ }
+    ensures scratch { λ _. ⌜ now (scratch .exit) ≡ replicate (head .c) 0 ⌝ }
+{
+    let c = head.c;
+    if c <= FEW {
+        let mut spare = [0usize; FEW];
+        return work_all(head, keys, links, scratch, &mut spare[..c], items);
+    }
+    let mut spare = [0usize; MOST];
+    work_all(head, keys, links, scratch, &mut spare[..c], items)
 }
 
 // How many entries of the tree a box holds.

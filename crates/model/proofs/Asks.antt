@@ -51,7 +51,7 @@ module _ (K C : ℕ) (b : Book) (fit : Fit K C) (v : Valid K C b) where
       let accept : Book → After = λ x. reading (counted h (length (keep bs (listing (x .tree))))) (keys K C b) (links K C b) in
       by-rows K C b fit v (Call.count bs) [] refuse (accept b)
       (refusing (listing (b .tree)) [] [] 0) (saying (listing (b .tree)) (says Done (outward []) 0 (length (keep bs (listing (b .tree)))) 0))
-      (reads-rows (λ x. []) refuse accept) refl (λ r. refl) refl (λ r. refl) (λ r. refl) (λ g. stays K C b fit v)
+      (reads-rows (λ x. []) refuse accept) refl (λ r. refl) (λ g. refl) (λ r. refl) (λ r. refl) (λ g. stays K C b fit v)
 
   pub step-list : (bs : List Bound) (room : List ℤ) → Stepped K C (Call.list bs room) (image K C b) (listing (b .tree))
   unfolding perform list plainly headOf
@@ -62,8 +62,8 @@ module _ (K C : ℕ) (b : Book) (fit : Fit K C) (v : Valid K C b) where
       let accept : Book → After = λ x. record { answer = counted h (length (keep bs (listing (x .tree)))); keys = keys K C b; links = links K C b; scratch = []; room = flat (keep bs (listing (x .tree))) ++ drop (K * length (keep bs (listing (x .tree)))) room; page = [] } in
       by-rows K C b fit v (Call.list bs room) ((ltb (length room) (K * length (keep bs es)), Room) ∷ []) refuse (accept b)
       (refusing es room [] 0)
-      (saying es (record { outcome = Done; entry = outward []; distance = 0; count = length (keep bs es); bytes = 0; line = 0; room = flat (keep bs es) ++ drop (K * length (keep bs es)) room; page = [] }))
-      (reads-rows (λ x. (ltb (length room) (K * length (keep bs (listing (x .tree)))), Room) ∷ []) refuse accept) refl (λ r. refl) refl (λ r. refl) (λ r. refl) (λ g. stays K C b fit v)
+      (saying es (record { outcome = Done; entry = outward []; distance = 0; count = length (keep bs es); bytes = 0; line = 0; place = 0; room = flat (keep bs es) ++ drop (K * length (keep bs es)) room; page = [] }))
+      (reads-rows (λ x. (ltb (length room) (K * length (keep bs (listing (x .tree)))), Room) ∷ []) refuse accept) refl (λ r. refl) (λ g. refl) (λ r. refl) (λ r. refl) (λ g. stays K C b fit v)
 
   near-said : (steps : List ℕ) (q : Entry) (o : Option Entry) → saidIn (reading (nearAnswer (headOf K C b) steps q (b .tree) o) (keys K C b) (links K C b)) ≡ nearSaid steps q o
   near-said steps q none = refl
@@ -81,7 +81,7 @@ module _ (K C : ℕ) (b : Book) (fit : Fit K C) (v : Valid K C b) where
       let accept : Book → After = λ x. reading (nearAnswer h steps (inward K q) (x .tree) (nearest steps (inward K q) (listing (x .tree)))) (keys K C b) (links K C b) in
       by-rows K C b fit v (Call.nearest q steps) ((anyZero (take K steps), Step) ∷ []) refuse (accept b)
       (refusing (listing (b .tree)) [] [] 0) (saying (listing (b .tree)) (nearSaid steps (inward K q) (nearest steps (inward K q) (listing (b .tree)))))
-      (perform-nearest q steps) refl (λ r. refl) (near-said steps (inward K q) (nearest steps (inward K q) (listing (b .tree)))) (λ r. refl) (λ r. refl)
+      (perform-nearest q steps) refl (λ r. refl) (λ g. near-said steps (inward K q) (nearest steps (inward K q) (listing (b .tree)))) (λ r. refl) (λ r. refl)
       (λ g. record { book = b; valid = v; same = ap (λ z. record { head = z; keys = keys K C b; links = links K C b }) (near-head (headOf K C b) steps (inward K q) (b .tree) (nearest steps (inward K q) (listing (b .tree)))); holds = refl })
 
   pub step-save : (room : List ℕ) → Stepped K C (Call.save room) (image K C b) (listing (b .tree))
@@ -93,5 +93,5 @@ module _ (K C : ℕ) (b : Book) (fit : Fit K C) (v : Valid K C b) where
       let accept : Book → After = λ x. record { answer = wrote h (length (textOf K (listing (x .tree)))); keys = keys K C b; links = links K C b; scratch = []; room = []; page = textOf K (listing (x .tree)) ++ drop (length (textOf K (listing (x .tree)))) room } in
       by-rows K C b fit v (Call.save room) ((ltb (length room) (length text), Room) ∷ []) refuse (accept b)
       (refusing (listing (b .tree)) [] room 0)
-      (saying (listing (b .tree)) (record { outcome = Done; entry = outward []; distance = 0; count = 0; bytes = length text; line = 0; room = []; page = text ++ drop (length text) room }))
-      (reads-rows (λ x. (ltb (length room) (length (textOf K (listing (x .tree)))), Room) ∷ []) refuse accept) refl (λ r. refl) refl (λ r. refl) (λ r. refl) (λ g. stays K C b fit v)
+      (saying (listing (b .tree)) (record { outcome = Done; entry = outward []; distance = 0; count = 0; bytes = length text; line = 0; place = 0; room = []; page = text ++ drop (length text) room }))
+      (reads-rows (λ x. (ltb (length room) (length (textOf K (listing (x .tree)))), Room) ∷ []) refuse accept) refl (λ r. refl) (λ g. refl) (λ r. refl) (λ r. refl) (λ g. stays K C b fit v)

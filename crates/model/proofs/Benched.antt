@@ -1,7 +1,8 @@
--- The bench cases hold and the damaged pools are not sound, by computing.
+-- The bench cases and the trays hold and the damaged pools are not sound, by computing.
 use mathlib.Core.Path.{refl}
 use Rattle.model.specs.Bench.{Bench}
 use Rattle.model.specs.Damage.{Damage}
+use Rattle.model.specs.Handed.{Handed}
 use Rattle.model.proofs.Opened.{opened}
 
 pub bench : Bench
@@ -42,4 +43,22 @@ damage =
       chainOutside = refl;
       notCleared = refl;
       rightLeft = refl;
+    }
+
+pub handed : Handed
+unfolding opened
+handed =
+    record {
+      empty = refl;
+      adds = refl;
+      strikes = refl;
+      inOrder = refl;
+      present = refl;
+      full = refl;
+      missing = refl;
+      first = (refl, refl);
+      length = refl;
+      before = (refl, refl);
+      number = refl;
+      many = (refl, refl);
     }

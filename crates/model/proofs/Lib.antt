@@ -27,12 +27,15 @@ pub mod Looks
 pub mod Goods
 pub mod Steps
 pub mod Asks
+pub mod Items
+pub mod Trays
 pub mod Takes
 pub mod Reaches
 pub mod Tallest
 pub mod FirstBad
 pub mod Kept
 pub mod Exactly
+pub mod Batches
 pub mod Carefully
 pub mod Returning
 pub mod Returned

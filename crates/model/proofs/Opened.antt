@@ -10,9 +10,10 @@ use Rattle.model.specs.Pool.{treeFrom, chainFrom, bookOf, fitting, sound
 use Rattle.model.specs.Text.{textOf, entryOfLine, titleOfLine, parse}
 use Rattle.model.specs.Answer.{checked}
 use Rattle.model.specs.Calls.{start, add, strikeOut, lookUp, count, list, near, save, takeIn}
+use Rattle.model.specs.Tray.{works, trayed, tray}
 use Rattle.model.specs.Show.{program}
 use Rattle.model.specs.Runs.{perform}
 
 unfoldable pub opened : Unit {0}
-unfolding difference fieldDistance cutField superKey cmp distance rebuild listing mend insert heir strike freed slotOf reads holds inBox closer nearest tallest upFrom fresh added struck cellIn behind cell links keys headOf treeFrom chainFrom bookOf fitting sound walk textOf entryOfLine titleOfLine parse checked start add strikeOut lookUp count list near save takeIn program perform
+unfolding difference fieldDistance cutField superKey cmp distance rebuild listing mend insert heir strike freed slotOf reads holds inBox closer nearest tallest upFrom fresh added struck cellIn behind cell links keys headOf treeFrom chainFrom bookOf fitting sound walk textOf entryOfLine titleOfLine parse checked start add strikeOut lookUp count list near save takeIn works trayed tray program perform
 opened = tt

@@ -37,7 +37,7 @@ saved-text : (K C : ℕ) (s : State) (es : List Entry) → Reached K C s es → 
 unfolding plainly
 saved-text K C s es g page h =
     let text : List ℕ = textOf K es in
-    let done : Turn = saying es (record { outcome = Done; entry = outward []; distance = 0; count = 0; bytes = length text; line = 0; room = []; page = text ++ drop (length text) page }) in
+    let done : Turn = saying es (record { outcome = Done; entry = outward []; distance = 0; count = 0; bytes = length text; line = 0; place = 0; room = []; page = text ++ drop (length text) page }) in
     let e : saidIn (perform (Call.save page) s) ≡ done .said = g .answers (Call.save page) tt ∙ ap (λ t. t .said) (checked-open ((ltb (length page) (length text), Room) ∷ []) (refusing es [] page 0) done (gate-off (ltb (length page) (length text)) Room [] (le-ltb (length page) (length text) h))) in
     ap₂ take (ap (λ x. x .bytes) e) (ap (λ x. x .page) e) ∙ take-at text (drop (length text) page) (length text) refl
 

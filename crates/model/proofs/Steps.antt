@@ -47,7 +47,7 @@ module _ (K C : ℕ) (b : Book) (fit : Fit K C) (v : Valid K C b) where
   -- a call and the plain book behind the same rows
   pub by-rows : (c : Call) (rows : List Row) (refuse : Refusal → After) (accept : After) (refuseP : Refusal → Turn) (acceptP : Turn)
       → perform c (image K C b) ≡ checked rows refuse accept → plainly K C c (listing (b .tree)) ≡ checked rows refuseP acceptP
-      → ((r : Refusal) → saidIn (refuse r) ≡ refuseP r .said) → saidIn accept ≡ acceptP .said
+      → ((r : Refusal) → saidIn (refuse r) ≡ refuseP r .said) → (gate rows ≡ none → saidIn accept ≡ acceptP .said)
       → ((r : Refusal) → stateOf (refuse r) ≡ image K C b) → ((r : Refusal) → refuseP r .held ≡ listing (b .tree))
       → (gate rows ≡ none → Good K C (stateOf accept) (acceptP .held)) → Stepped K C c (image K C b) (listing (b .tree))
   by-rows c rows refuse accept refuseP acceptP p q sr sa tr hr g = go (gate rows) refl
@@ -56,7 +56,7 @@ module _ (K C : ℕ) (b : Book) (fit : Fit K C) (v : Valid K C b) where
       go none e =
           let x : perform c (image K C b) ≡ accept = p ∙ checked-open rows refuse accept e in
           let y : plainly K C c (listing (b .tree)) ≡ acceptP = q ∙ checked-open rows refuseP acceptP e in
-          record { said = ap saidIn x ∙ sa ∙ sym (ap (λ t. t .said) y); good = rw (x, y) (g e) }
+          record { said = ap saidIn x ∙ sa e ∙ sym (ap (λ t. t .said) y); good = rw (x, y) (g e) }
       go (some r) e =
           let x : perform c (image K C b) ≡ refuse r = p ∙ checked-shut rows refuse accept r e in
           let y : plainly K C c (listing (b .tree)) ≡ refuseP r = q ∙ checked-shut rows refuseP acceptP r e in
@@ -66,10 +66,10 @@ module _ (K C : ℕ) (b : Book) (fit : Fit K C) (v : Valid K C b) where
   pub stays : Good K C (image K C b) (listing (b .tree))
   stays = record { book = b; valid = v; same = refl; holds = refl }
 
-  rowsAdd : List ℕ → Four → List Row
+  unfoldable pub rowsAdd : List ℕ → Four → List Row
   rowsAdd sc e = (not (eqb (length sc) C), Lengths) ∷ (has (inward K e) (listing (b .tree)), Present) ∷ (eqb (length (listing (b .tree))) C, Full) ∷ []
 
-  perform-add : (sc : List ℕ) (e : Four) → perform (Call.add sc e) (image K C b) ≡ checked (rowsAdd sc e) (λ r. leaving (refused (headOf K C b) 0 r) (keys K C b) (links K C b) sc) (writing (headOf K C b) (added (inward K e) b))
+  pub perform-add : (sc : List ℕ) (e : Four) → perform (Call.add sc e) (image K C b) ≡ checked (rowsAdd sc e) (λ r. leaving (refused (headOf K C b) 0 r) (keys K C b) (links K C b) sc) (writing (headOf K C b) (added (inward K e) b))
   unfolding perform add headOf rowsAdd
   perform-add sc e =
       let h : Head = headOf K C b in
@@ -85,7 +85,7 @@ module _ (K C : ℕ) (b : Book) (fit : Fit K C) (v : Valid K C b) where
   step-add sc e p =
       by-rows (Call.add sc e) (rowsAdd sc e) (λ r. leaving (refused (headOf K C b) 0 r) (keys K C b) (links K C b) sc) (writing (headOf K C b) (added (inward K e) b))
       (refusing (listing (b .tree)) [] [] 0) (saying (within (inward K e) (listing (b .tree))) (says Done (outward []) 0 0 0))
-      (perform-add sc e) refl (λ r. refl) refl (λ r. refl) (λ r. refl)
+      (perform-add sc e) refl (λ r. refl) (λ g. refl) (λ r. refl) (λ r. refl)
       (λ g.
       let f = gate-none (rowsAdd sc e) g in
       let n : length (listing (b .tree)) ≡ size (b .tree) = listing-length (b .tree) in
@@ -94,10 +94,10 @@ module _ (K C : ℕ) (b : Book) (fit : Fit K C) (v : Valid K C b) where
       let x = more K C b (inward K e) v (inward-long K C e fit p) (has-false (inward K e) (listing (b .tree)) (f .1 .0)) (omega (arith, w)) in
       record { book = added (inward K e) b; valid = x .0; same = refl; holds = x .1 })
 
-  rowsStrike : List ℕ → Four → List Row
+  unfoldable pub rowsStrike : List ℕ → Four → List Row
   rowsStrike sc e = (not (eqb (length sc) C), Lengths) ∷ (not (has (inward K e) (listing (b .tree))), Missing) ∷ []
 
-  perform-strike : (sc : List ℕ) (e : Four) → perform (Call.strike sc e) (image K C b) ≡ checked (rowsStrike sc e) (λ r. leaving (refused (headOf K C b) 0 r) (keys K C b) (links K C b) sc) (writing (headOf K C b) (struck (inward K e) b))
+  pub perform-strike : (sc : List ℕ) (e : Four) → perform (Call.strike sc e) (image K C b) ≡ checked (rowsStrike sc e) (λ r. leaving (refused (headOf K C b) 0 r) (keys K C b) (links K C b) sc) (writing (headOf K C b) (struck (inward K e) b))
   unfolding perform strikeOut headOf rowsStrike
   perform-strike sc e =
       let h : Head = headOf K C b in
@@ -111,7 +111,7 @@ module _ (K C : ℕ) (b : Book) (fit : Fit K C) (v : Valid K C b) where
   step-strike sc e =
       by-rows (Call.strike sc e) (rowsStrike sc e) (λ r. leaving (refused (headOf K C b) 0 r) (keys K C b) (links K C b) sc) (writing (headOf K C b) (struck (inward K e) b))
       (refusing (listing (b .tree)) [] [] 0) (saying (without (inward K e) (listing (b .tree))) (says Done (outward []) 0 0 0))
-      (perform-strike sc e) refl (λ r. refl) refl (λ r. refl) (λ r. refl)
+      (perform-strike sc e) refl (λ r. refl) (λ g. refl) (λ r. refl) (λ r. refl)
       (λ g.
       let f = gate-none (rowsStrike sc e) g in
       let q : has (inward K e) (listing (b .tree)) ≡ true = not-false (has (inward K e) (listing (b .tree))) (f .1 .0) in

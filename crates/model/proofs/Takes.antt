@@ -27,6 +27,7 @@ use Rattle.model.proofs.Goods.{all-more, image, new-every, new-once, ne
 use Rattle.model.proofs.Listings.{listing-length}
 use Rattle.model.proofs.Passes.{Fit, pass4s}
 use Rattle.model.proofs.Steps.{Stepped, by-rows, step-add, step-look, step-strike}
+use Rattle.model.proofs.Trays.{step-tray}
 use Rattle.model.proofs.Texts.{Writable, only-saved, rise-once}
 use Rattle.model.specs.declared.Head.{Head}
 use Rattle.model.specs.declared.Outcome.the-variants.{Done}
@@ -62,7 +63,7 @@ module _ (K C : ℕ) (b : Book) (fit : Fit K C) (v : Valid K C b) where
   step-take sc text =
       by-rows K C b fit v (Call.takeIn sc text) (rowsTake sc text) (λ r. leaving (refused (headOf K C b) (brokenAt (parse text)) r) (keys K C b) (links K C b) sc) (writing (headOf K C b) (addedAll (newIn text) b))
       (refusing (listing (b .tree)) [] [] (brokenAt (parse text))) (saying (withinAll (newIn text) (listing (b .tree))) (says Done (outward []) 0 0 0))
-      (perform-take sc text) refl (λ r. refl) refl (λ r. refl) (λ r. refl)
+      (perform-take sc text) refl (λ r. refl) (λ g. refl) (λ r. refl) (λ r. refl)
       (λ g.
       let f = gate-none (rowsTake sc text) g in
       let w = taken text (parse text) refl (f .1 .0) (f .1 .1 .0) in
@@ -82,3 +83,4 @@ step-image K C b fit v (Call.list bs room) g = step-list K C b fit v bs room
 step-image K C b fit v (Call.nearest q ss) g = step-nearest K C b fit v q ss
 step-image K C b fit v (Call.save page) g = step-save K C b fit v page
 step-image K C b fit v (Call.takeIn sc text) g = step-take K C b fit v sc text
+step-image K C b fit v (Call.tray sc xs) g = step-tray K C b fit v sc xs

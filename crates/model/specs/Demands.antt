@@ -16,6 +16,7 @@ use Rattle.model.specs.Text.{rises, textOf}
 use Rattle.model.specs.Answer.{inward, outward}
 use Rattle.model.specs.Gate.{After, sized}
 use Rattle.model.specs.Calls.{start}
+use Rattle.model.specs.Tray.{Work, adding, striking, works}
 use Rattle.model.specs.Runs.{Call, Given, GivenAll, State, perform, stateOf, run}
 use Rattle.model.specs.Plain.{saidIn, plainly, heldAfter}
 use Rattle.model.specs.declared.Head.{Head}
@@ -87,6 +88,7 @@ scratchIn (Call.list bs room) = []
 scratchIn (Call.nearest q ss) = []
 scratchIn (Call.save page) = []
 scratchIn (Call.takeIn sc text) = sc
+scratchIn (Call.tray sc xs) = sc
 
 abbrev pub roomIn : Call → List ℤ
 roomIn (Call.add sc e) = []
@@ -97,6 +99,7 @@ roomIn (Call.list bs room) = room
 roomIn (Call.nearest q ss) = []
 roomIn (Call.save page) = []
 roomIn (Call.takeIn sc text) = []
+roomIn (Call.tray sc xs) = []
 
 abbrev pub pageIn : Call → List ℕ
 pageIn (Call.add sc e) = []
@@ -107,6 +110,7 @@ pageIn (Call.list bs room) = []
 pageIn (Call.nearest q ss) = []
 pageIn (Call.save page) = page
 pageIn (Call.takeIn sc text) = []
+pageIn (Call.tray sc xs) = []
 
 abbrev pub writes : Call → Bool
 writes (Call.add sc e) = true
@@ -117,6 +121,7 @@ writes (Call.list bs room) = false
 writes (Call.nearest q ss) = false
 writes (Call.save page) = false
 writes (Call.takeIn sc text) = true
+writes (Call.tray sc xs) = true
 
 -- Demand 1, on any state at all: a refused call changes nothing, scratch included; a call that only reads leaves the state; an accepted
 -- call that borrows scratch leaves it all 0.
@@ -124,6 +129,20 @@ pub record Careful (c : Call) (s : State) : Type 0 where
   pub refusal : (r : Refusal) → perform c s .answer .outcome ≡ Refused r → (stateOf (perform c s) ≡ s) × (perform c s .scratch ≡ scratchIn c) × (perform c s .room ≡ roomIn c) × (perform c s .page ≡ pageIn c)
   pub reading : writes c ≡ false → stateOf (perform c s) ≡ s
   pub cleared : writes c ≡ true → perform c s .answer .outcome ≡ Done → perform c s .scratch ≡ replicate (s .head .c) 0
+
+-- The single calls that the items of a tray stand for.
+abbrev pub single : List ℕ → Work → Call
+single sc (adding e) = Call.add sc (outward e)
+single sc (striking e) = Call.strike sc (outward e)
+
+abbrev pub singly : List ℕ → List Work → List Call
+singly sc [] = []
+singly sc (w ∷ ws) = single sc w ∷ singly sc ws
+
+-- Demand 2 counts a batch as its items: a tray that is done leaves the state, and the plain set, that its single calls leave. (02, M-100.)
+pub record Batch (sc : List ℕ) (xs : List ℤ) : Type 0 where
+  pub state : (s : State) → perform (Call.tray sc xs) s .answer .outcome ≡ Done → stateOf (perform (Call.tray sc xs) s) ≡ run (singly (replicate (s .head .c) 0) (works (s .head .k) xs)) s
+  pub held : (K C : ℕ) (es : List Entry) → plainly K C (Call.tray sc xs) es .said .outcome ≡ Done → plainly K C (Call.tray sc xs) es .held ≡ heldAfter K C (singly (replicate C 0) (works K xs)) es
 
 -- The bytes that save wrote; a text taken into a fresh pool.
 abbrev pub savedFrom : State → List ℕ → List ℕ

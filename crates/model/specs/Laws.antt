@@ -1,21 +1,30 @@
 -- What is claimed of the tree, the nearest and the text, in the words of the definitions alone; each record is proved for all its arguments.
 use mathlib.Core.Path.{_≡_}
 use mathlib.Core.List.{List, [], _∷_, _++_, List·Permᴰ}
-use mathlib.Core.Option.{none, some}
-use mathlib.Core.Bool.{true, false}
+use mathlib.Core.Option.{Option, none, some}
+use mathlib.Core.Bool.{true, false, not}
 use Prim.Native.Nat.{ℕ, suc, _+_, _≤_, _<_, Ordering·lt}
+use lib.Dec.{eqb}
 use lib.ListN.{length}
+use lib.IntN.{ℤ}
 use Rattle.model.specs.Entry.{Entry, cmp, distance}
 use Rattle.model.specs.Tree.{Item, Tree, items, entriesOf, slotsOf, height, size, balanced, ordered}
 use Rattle.model.specs.Rebuild.{rank, rebuild, listing}
 use Rattle.model.specs.Strike.{freed}
 use Rattle.model.specs.Ask.{has, newOf, nearest, fewest, tallest}
 use Rattle.model.specs.Book.{Book, fresh, added, struck}
+use Rattle.model.specs.Pool.{bookOf}
 use Rattle.model.specs.Text.{broken, saved, ranged, textOf, parse}
 use Rattle.model.specs.Lines.{rightLine}
+use Rattle.model.specs.Answer.{Row, gate, refused, refusedAt}
+use Rattle.model.specs.Gate.{leaving, writing}
 use Rattle.model.specs.Calls.{addedAll}
+use Rattle.model.specs.Tray.{Work, adding, striking, works, trayRows, tray}
 use Rattle.model.specs.Show.{bookLines, program}
 use Rattle.model.specs.Demands.{InOrder, rising}
+use Rattle.model.specs.declared.Head.{Head}
+use Rattle.model.specs.declared.Refusal.{Refusal}
+use Rattle.model.specs.declared.Refusal.the-variants.{Present, Missing, Full}
 
 -- An add changes the entries by exactly the one named and the slots by exactly the first free one; order and balance stay.
 pub record Adds (K C : ℕ) (b : Book) (e : Entry) (s : ℕ) (ss : List ℕ) : Type 0 where
@@ -68,3 +77,33 @@ pub record Linewise (K C : ℕ) (b : Book) (es : List Entry) : Type 0 where
 -- The program prints the tree of the text's entries added one by one to a fresh pool of 512.
 pub record Shows (text : List ℕ) : Type 0 where
   pub tree : (K : ℕ) (es : List Entry) → parse text ≡ saved K es → length text ≤ 32768 → length es ≤ 512 → program text ≡ bookLines K (addedAll es (fresh 512))
+
+-- What is wrong with an item in a book of C slots: an add of what is there or without a free slot, a strike of what is not there. (5, 7, 6.)
+abbrev pub wrongRows : ℕ → Work → Book → List Row
+wrongRows C (adding e) b = (has e (listing (b .tree)), Present) ∷ (eqb (size (b .tree)) C, Full) ∷ []
+wrongRows C (striking e) b = (not (has e (listing (b .tree))), Missing) ∷ []
+
+abbrev pub wrongWith : ℕ → Work → Book → Option Refusal
+wrongWith C w b = gate (wrongRows C w b)
+
+-- The book after an item, after all items.
+abbrev pub worked : Work → Book → Book
+worked (adding e) b = added e b
+worked (striking e) b = struck e b
+
+abbrev pub workedAll : List Work → Book → Book
+workedAll [] b = b
+workedAll (w ∷ ws) b = workedAll ws (worked w b)
+
+-- The first item that is wrong in the book as the items before it leave it: its place, where the first has place p, and its refusal.
+abbrev pub firstWrong : ℕ → ℕ → List Work → Book → Option (ℕ × Refusal)
+firstWrong C p [] b = none
+firstWrong C p (w ∷ ws) b = elim (wrongWith C w b) [ some r ↦ some (p, r) | none ↦ firstWrong C (suc p) ws (worked w b) ]
+
+-- A tray in terms of books: behind its rows the first wrong item refuses it with its place; where none is wrong every item is worked.
+pub record Trays (h : Head) (ks : List ℤ) (ls sc : List ℕ) (xs : List ℤ) : Type 0 where
+  pub shut : (r : Refusal) → gate (trayRows h ks ls sc xs) ≡ some r → tray h ks ls sc xs ≡ leaving (refused h 0 r) ks ls sc
+  pub wrong : (p : ℕ) (r : Refusal) → gate (trayRows h ks ls sc xs) ≡ none → firstWrong (h .c) 1 (works (h .k) xs) (bookOf h ks ls) ≡ some (p, r)
+      → tray h ks ls sc xs ≡ leaving (refusedAt h p r) ks ls sc
+  pub right : gate (trayRows h ks ls sc xs) ≡ none → firstWrong (h .c) 1 (works (h .k) xs) (bookOf h ks ls) ≡ none
+      → tray h ks ls sc xs ≡ writing h (workedAll (works (h .k) xs) (bookOf h ks ls))

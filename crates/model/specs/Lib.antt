@@ -1,4 +1,4 @@
--- The paper as definitions, in its order: document 01, and nothing else.
+-- The paper as definitions, in its order: document 01 with the requests of 02 that have landed, and nothing else.
 pub mod Number
 pub mod Entry
 pub mod Tree
@@ -13,11 +13,13 @@ pub mod Lines
 pub mod Answer
 pub mod Gate
 pub mod Calls
+pub mod Tray
 pub mod Show
 pub mod Runs
 pub mod Plain
 pub mod Bench
 pub mod Damage
+pub mod Handed
 pub mod Example
 pub mod Demands
 pub mod Laws

@@ -43,6 +43,7 @@ pub enum Refusal {
     Text,
     Mismatch,
     Step,
+    Tray,
 }
 
 pub enum Outcome {
@@ -63,4 +64,5 @@ pub struct Answer {
     pub count: usize,
     pub bytes: usize,
     pub line: usize,
+    pub place: usize,
 }

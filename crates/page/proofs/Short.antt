@@ -11,7 +11,7 @@ use Rattle.model.specs.Text.{decimal, pairs, signed}
 use Rattle.model.specs.Answer.{outward, numberOf}
 use Rattle.model.specs.Show.{refusalLine}
 use Rattle.model.specs.declared.Refusal.{Refusal}
-use Rattle.model.specs.declared.Refusal.the-variants.{Fields, Capacity, Lengths, Unsound, Present, Missing, Full, Room, Text, Mismatch, Step}
+use Rattle.model.specs.declared.Refusal.the-variants.{Fields, Capacity, Lengths, Unsound, Present, Missing, Full, Room, Text, Mismatch, Step, Tray}
 use Rattle.model.specs.declared.Entry.{Entry as Four}
 use Rattle.cells.specs.Slots.{numbersOf}
 use Rattle.cells.proofs.Slots.{numbers-long}
@@ -74,7 +74,7 @@ totals-short n h f p q r =
     let z = length-append (decimal n) (32 ∷ 104 ∷ 101 ∷ 105 ∷ 103 ∷ 104 ∷ 116 ∷ 61 ∷ (decimal h ++ (32 ∷ 102 ∷ 114 ∷ 101 ∷ 101 ∷ 61 ∷ (decimal f ++ (10 ∷ []))))) in
     omega arith
 
-number-small : (r : Refusal) → numberOf r < 12
+number-small : (r : Refusal) → numberOf r < 13
 number-small Fields = omega arith
 number-small Capacity = omega arith
 number-small Lengths = omega arith
@@ -86,6 +86,7 @@ number-small Room = omega arith
 number-small Text = omega arith
 number-small Mismatch = omega arith
 number-small Step = omega arith
+number-small Tray = omega arith
 
 refusal-short : (r : Refusal) (l : ℕ) → l < 2 ^ 64 → length (refusalLine r l) ≤ 160
 refusal-short r l h =

@@ -24,6 +24,7 @@ pub fn number_of(why: Refusal) -> usize
         Refusal::Text => 9,
         Refusal::Mismatch => 10,
         Refusal::Step => 11,
+        Refusal::Tray => 12,
     }
 }
 

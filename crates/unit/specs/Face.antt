@@ -21,7 +21,7 @@ outcomeIn (Refused r) = 4
 
 -- An answer made flat: the outcome and the refusal as numbers, every other part as it is.
 abbrev pub told : Answer → Told
-told a = record { outcome = outcomeIn (a .outcome); refusal = refusalIn (a .outcome); head = a .head; entry = a .entry; slot = a .slot; reads = a .reads; distance = a .distance; count = a .count; bytes = a .bytes; line = a .line }
+told a = record { outcome = outcomeIn (a .outcome); refusal = refusalIn (a .outcome); head = a .head; entry = a .entry; slot = a .slot; reads = a .reads; distance = a .distance; count = a .count; bytes = a .bytes; line = a .line; place = a .place }
 
 -- The bound that a kind and two ends stand for: 0 free, 1 at least, 2 at most, any other between.
 abbrev pub bound : Limit → Bound

@@ -33,4 +33,5 @@ pub struct Told {
     pub count: usize,
     pub bytes: usize,
     pub line: usize,
+    pub place: usize,
 }

@@ -7,6 +7,7 @@ use model::Entry;
 use model::Head;
 ghost use mathlib.Core.Path.{_≡_};
 ghost use Rattle.model.specs.Calls as calls;
+ghost use Rattle.model.specs.Tray as trays;
 ghost use Rattle.unit.specs.Doors.{judged};
 ghost use Rattle.unit.specs.Face.{told, bounds};
 
@@ -140,4 +141,21 @@ pub extern "C" fn book_take_in(
     ensures scratch { λ _. ⌜ now (scratch .exit) ≡ calls.takeIn head (now (keys .entry)) (now (links .entry)) (now (scratch .entry)) (now (text .entry)) .scratch ⌝ }
 {
     told::told(book::take_in(head, keys, links, scratch, text))
+}
+
+// A tray of adds and strikes in order, whole or not at all.
+#[no_mangle]
+pub extern "C" fn book_tray(
+    head: Head,
+    keys: &mut [i64],
+    links: &mut [usize],
+    scratch: &mut [usize],
+    items: &[i64],
+) -> Told
+    ensures answer { λ r. ⌜ r ≡ told (trays.tray head (now (keys .entry)) (now (links .entry)) (now (scratch .entry)) (now (items .entry)) .answer) ⌝ }
+    ensures keys { λ _. ⌜ now (keys .exit) ≡ trays.tray head (now (keys .entry)) (now (links .entry)) (now (scratch .entry)) (now (items .entry)) .keys ⌝ }
+    ensures links { λ _. ⌜ now (links .exit) ≡ trays.tray head (now (keys .entry)) (now (links .entry)) (now (scratch .entry)) (now (items .entry)) .links ⌝ }
+    ensures scratch { λ _. ⌜ now (scratch .exit) ≡ trays.tray head (now (keys .entry)) (now (links .entry)) (now (scratch .entry)) (now (items .entry)) .scratch ⌝ }
+{
+    told::told(book::tray(head, keys, links, scratch, items))
 }

@@ -23,6 +23,7 @@ pub fn number_of(why: Refusal) -> usize
         Refusal::Text => 9,
         Refusal::Mismatch => 10,
         Refusal::Step => 11,
+        Refusal::Tray => 12,
     }
 }
 
@@ -67,5 +68,6 @@ pub fn told(a: Answer) -> Told
         count: a.count,
         bytes: a.bytes,
         line: a.line,
+        place: a.place,
     }
 }

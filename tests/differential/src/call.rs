@@ -4,11 +4,13 @@ use crate::damage::Damage;
 use crate::doors::{Bound, Bounds, Entry, Steps};
 use crate::lent::Guarded;
 use crate::texts::Fault;
+use crate::trays::Sort;
 use std::fmt;
 
-/// The names of the doors: the nine calls and the one that judges a pool; a call's number is its place here.
-pub const NAMES: [&str; 10] = [
+/// The names of the doors: the ten calls and the one that judges a pool; a call's number is its place here.
+pub const NAMES: [&str; 11] = [
     "start", "add", "strike", "look up", "count", "list", "nearest", "save", "judge", "take in",
+    "tray",
 ];
 
 /// A call and what it is given beside the book; a room is given by its length.
@@ -29,9 +31,11 @@ pub enum Call {
     Save(usize),
     Judge,
     TakeIn(Vec<u8>, Fault),
+    /// The items, each of as many numbers as it has been given.
+    Tray(Vec<Vec<i64>>, Sort),
 }
 
-/// What a call is lent beside the book: a room for numbers, a room for bytes or the text it reads.
+/// What a call is lent beside the book: a room for numbers or the items it reads, a room for bytes or the text it reads.
 pub struct Room {
     pub numbers: Guarded<i64>,
     pub bytes: Guarded<u8>,
@@ -70,18 +74,23 @@ impl Call {
             Call::Save(_) => 7,
             Call::Judge => 8,
             Call::TakeIn(..) => 9,
+            Call::Tray(..) => 10,
         }
     }
 
     /// Whether the call borrows scratch.
     pub fn borrows_scratch(&self) -> bool {
-        matches!(self, Call::Add(_) | Call::Strike(_) | Call::TakeIn(..))
+        matches!(
+            self,
+            Call::Add(_) | Call::Strike(_) | Call::TakeIn(..) | Call::Tray(..)
+        )
     }
 
     /// The rooms of this call, with something in them.
     pub fn room(&self, edge: usize) -> Room {
         let numbers = match self {
             Call::List(_, length) => Guarded::new(&vec![-3; *length], edge),
+            Call::Tray(items, _) => Guarded::new(&items.concat(), edge),
             _ => Guarded::new(&[], edge),
         };
         let bytes = match self {
@@ -137,6 +146,10 @@ impl fmt::Display for Call {
             Call::Save(room) => write!(f, "{name}, room for {room} bytes"),
             Call::Judge => write!(f, "{name}"),
             Call::TakeIn(text, _) => write!(f, "{name} \"{}\"", text.escape_ascii()),
+            Call::Tray(items, _) => {
+                write!(f, "{name} of {}:", items.len())?;
+                items.iter().try_for_each(|item| write!(f, " {item:?}"))
+            }
         }
     }
 }

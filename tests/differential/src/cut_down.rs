@@ -76,6 +76,7 @@ fn plainly(step: &Step) -> Vec<Step> {
 fn parts(step: &Step) -> usize {
     match step {
         Step::Call(Call::TakeIn(text, _)) => text.len(),
+        Step::Call(Call::Tray(items, _)) => items.len(),
         Step::Call(_) => 0,
         Step::Given { entries, .. } => entries.len(),
         Step::Spoil(damage) | Step::Mend(damage) => damage.edits.len(),
@@ -88,6 +89,7 @@ fn without_parts(step: &Step, range: Range<usize>) -> Step {
     let mut step = step.clone();
     match &mut step {
         Step::Call(Call::TakeIn(text, _)) => drop(text.drain(range)),
+        Step::Call(Call::Tray(items, _)) => drop(items.drain(range)),
         Step::Call(_) => {}
         Step::Given { entries, .. } => drop(entries.drain(range)),
         Step::Spoil(damage) | Step::Mend(damage) => drop(damage.edits.drain(range)),

@@ -54,6 +54,7 @@ pub struct Answer {
     pub count: usize,
     pub bytes: usize,
     pub line: usize,
+    pub place: usize,
 }
 
 type Keys = *const i64;
@@ -89,6 +90,10 @@ extern "C" {
         head: Head, keys: *mut i64, keys_len: usize, links: *mut usize, links_len: usize,
         scratch: *mut usize, scratch_len: usize, text: *const u8, text_len: usize,
     ) -> Answer;
+    fn book_tray(
+        head: Head, keys: *mut i64, keys_len: usize, links: *mut usize, links_len: usize,
+        scratch: *mut usize, scratch_len: usize, items: Keys, items_len: usize,
+    ) -> Answer;
 }
 
 /// A verdict on a pool as an answer: done where it is sound, else refused.
@@ -123,6 +128,7 @@ pub fn call(call: &Call, lent: &mut Lent, room: &mut Room) -> Answer {
             Call::Save(_) => book_save(h, kp, kn, lp, ln, bytes.as_mut_ptr(), bytes.len()),
             Call::Judge => judged(h, book_judge(h, kp, kn, lp, ln)),
             Call::TakeIn(..) => book_take_in(h, kp, kn, lp, ln, sp, sn, bytes.as_ptr(), bytes.len()),
+            Call::Tray(..) => book_tray(h, kp, kn, lp, ln, sp, sn, numbers.as_ptr(), numbers.len()),
         }
     }
 }

@@ -19,6 +19,7 @@ mod table;
 mod tally;
 mod tell;
 mod texts;
+mod trays;
 mod values;
 mod view;
 mod watch;
@@ -119,4 +120,5 @@ fn print(flags: &Flags, tally: &Tally) {
     }
     println!("{}", table::damage(tally));
     println!("{}", table::texts(tally));
+    println!("{}", table::trays(tally));
 }

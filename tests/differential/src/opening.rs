@@ -4,6 +4,7 @@ use crate::call::{Call, Step};
 use crate::dice::Dice;
 use crate::doors::Entry;
 use crate::plan::{Opening, Order, Plan};
+use crate::trays;
 use crate::values::Values;
 use std::collections::BTreeSet;
 
@@ -31,24 +32,30 @@ pub fn steps(plan: &Plan, values: &Values, dice: &mut Dice) -> Vec<Step> {
             let entries = distinct(values, dice, n);
             let strikes = ordered(&entries, order, dice);
             let given = Step::Given { k, c, entries };
-            let strikes = strikes.into_iter().map(Call::Strike).map(Step::Call);
-            std::iter::once(given).chain(strikes).collect()
+            after(given, strikes.into_iter().map(Call::Strike))
         }
         Opening::FillAndStrike(adds, strikes) => {
             let mut entries = distinct(values, dice, c + 1);
             let beyond = entries.pop();
             let adds = ordered(&entries, adds, dice).into_iter().chain(beyond);
             let strikes = ordered(&entries, strikes, dice).into_iter().chain(beyond);
-            let calls = adds.map(Call::Add).chain(strikes.map(Call::Strike));
-            std::iter::once(fresh)
-                .chain(calls.map(Step::Call))
-                .collect()
+            after(fresh, adds.map(Call::Add).chain(strikes.map(Call::Strike)))
         }
-        Opening::Adds(count) => {
-            let adds = (0..count).map(|_| Step::Call(Call::Add(values.entry(dice))));
-            std::iter::once(fresh).chain(adds).collect()
+        Opening::Trays(adds, strikes) => {
+            let entries = distinct(values, dice, c);
+            let adds = trays::of(k, 1, &ordered(&entries, adds, dice));
+            let strikes = trays::of(k, 2, &ordered(&entries, strikes, dice));
+            after(fresh, adds.into_iter().chain(strikes))
         }
+        Opening::Adds(count) => after(fresh, (0..count).map(|_| Call::Add(values.entry(dice)))),
     }
+}
+
+/// The first step, then these calls.
+fn after(first: Step, calls: impl Iterator<Item = Call>) -> Vec<Step> {
+    std::iter::once(first)
+        .chain(calls.map(Step::Call))
+        .collect()
 }
 
 /// So many entries that differ within K, or as many as this style has to give.

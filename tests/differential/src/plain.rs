@@ -59,6 +59,7 @@ fn raw_answer(answer: Answer) -> doors::Answer {
         count: answer.count,
         bytes: answer.bytes,
         line: answer.line,
+        place: answer.place,
     }
 }
 
@@ -99,6 +100,7 @@ pub fn call(call: &Call, lent: &mut Lent, room: &mut Room) -> doors::Answer {
         }
         Call::Save(_) => reference::save(head, keys, links, room.bytes.cells_mut()),
         Call::TakeIn(..) => reference::take_in(head, keys, links, scratch, room.bytes.cells()),
+        Call::Tray(..) => reference::tray(head, keys, links, scratch, room.numbers.cells()),
         Call::Judge => unreachable!("answered above"),
     })
 }

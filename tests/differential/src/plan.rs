@@ -26,6 +26,8 @@ pub enum Opening {
     FillAndStrike(Order, Order),
     /// With a start and so many adds.
     Adds(usize),
+    /// With a start, trays of adds until the book is full, and trays of strikes until it is empty.
+    Trays(Order, Order),
 }
 
 /// A history before its dice are thrown.
@@ -122,6 +124,8 @@ fn large() -> Vec<Plan> {
         let n = [4096, 4095, 2000, 3000][k - 1];
         plans.push(Plan::mixed(k, 4096, Style::Torque, Opening::Given(n), 40));
         plans.push(Plan::run(k, 4096, Opening::Adds(2500)));
+        let (adds, strikes) = (ORDERS[k % 3], ORDERS[k / 2]);
+        plans.push(Plan::run(k, 4096, Opening::Trays(adds, strikes)));
     }
     plans
 }

@@ -53,6 +53,8 @@ pub fn call(call: &Call, lent: &mut Lent, room: &mut Room) -> Answer {
         }
         // The line of refusal 9 is one off behind line 3.
         (11, Call::TakeIn(..)) if answer.line > 3 => answer.line += 1,
+        // The place of a refused item is one off behind place 2.
+        (12, Call::Tray(..)) if answer.place > 2 => answer.place -= 1,
         _ => {}
     }
     answer

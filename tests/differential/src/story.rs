@@ -10,6 +10,7 @@ use crate::pair::Pair;
 use crate::plain::plain_bounds;
 use crate::plan::{self, Plan};
 use crate::texts::{text_of, Fault, FAULTS};
+use crate::trays;
 use crate::values::Values;
 use std::collections::VecDeque;
 
@@ -78,7 +79,7 @@ impl Story {
     /// A call that is not a start, an add rather than a strike while the book is to grow.
     fn any_call(&mut self, pair: &Pair) -> Call {
         let adds = [85, 50, 15, 50][4 * (self.step - 1) / self.plan.steps];
-        let number = match self.dice.below(82) {
+        let number = match self.dice.below(92) {
             0..=38 if self.dice.chance(adds) => 1,
             0..=38 => 2,
             39..=46 => 3,
@@ -87,7 +88,8 @@ impl Story {
             60..=66 => 6,
             67..=70 => 7,
             71..=72 => 8,
-            _ => 9,
+            73..=81 => 9,
+            _ => 10,
         };
         let fault = match self.dice.chance(35) {
             true => 0,
@@ -117,7 +119,8 @@ impl Story {
                 Call::Save(length)
             }
             8 => Call::Judge,
-            _ => self.take_in(pair, fault),
+            9 => self.take_in(pair, fault),
+            _ => trays::throw(dice, &self.values, lent),
         }
     }
 

@@ -4,6 +4,7 @@ use crate::call::NAMES;
 use crate::kinds::KINDS;
 use crate::tally::{Count, Tally};
 use crate::texts::FAULTS;
+use crate::trays::SORTS;
 
 /// Rows of cells as a table, the first row its titles.
 fn table(rows: &[Vec<String>]) -> String {
@@ -42,7 +43,7 @@ fn titles(of: &[&str]) -> Vec<String> {
 /// Each call: how many were made, accepted, and refused by each number.
 pub fn calls(tally: &Tally) -> String {
     let mut rows = vec![titles(&[
-        "call", "made", "accepted", "1", "2", "3", "4", "5", "6", "7", "8", "9", "10", "11",
+        "call", "made", "accepted", "1", "2", "3", "4", "5", "6", "7", "8", "9", "10", "11", "12",
     ])];
     for (name, count) in NAMES.iter().zip(&tally.calls) {
         let mut numbers = vec![count.tried];
@@ -107,6 +108,39 @@ pub fn texts(tally: &Tally) -> String {
     };
     for ((name, _), count) in FAULTS.iter().zip(&tally.texts) {
         rows.push(row(name, &one(count)));
+    }
+    table(&rows)
+}
+
+/// Each sort of tray: tried, and how it ended.
+pub fn trays(tally: &Tally) -> String {
+    let mut rows = vec![titles(&[
+        "tray",
+        "tried",
+        "refused as 12",
+        "as 5",
+        "as 6",
+        "as 7",
+        "as 1 to 4",
+        "accepted",
+        "unseen",
+    ])];
+    let one = |count: &Count| {
+        let ended = count.ended;
+        let pool = ended[1..=4].iter().sum();
+        [
+            count.tried,
+            ended[12],
+            ended[5],
+            ended[6],
+            ended[7],
+            pool,
+            ended[0],
+            count.unseen,
+        ]
+    };
+    for (sort, count) in SORTS.iter().zip(&tally.trays) {
+        rows.push(row(sort.name, &one(count)));
     }
     table(&rows)
 }

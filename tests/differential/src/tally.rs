@@ -4,9 +4,10 @@ use crate::call::{Call, NAMES};
 use crate::doors::Answer;
 use crate::kinds::KINDS;
 use crate::texts::FAULTS;
+use crate::trays::SORTS;
 
 /// The refusals that each call can give, in the order of the names.
-const POSSIBLE: [&[usize]; 10] = [
+const POSSIBLE: [&[usize]; NAMES.len()] = [
     &[1, 2, 3],
     &[1, 2, 3, 4, 5, 7],
     &[1, 2, 3, 4, 6],
@@ -17,13 +18,14 @@ const POSSIBLE: [&[usize]; 10] = [
     &[1, 2, 3, 4, 8],
     &[1, 2, 3, 4],
     &[1, 2, 3, 4, 7, 9, 10],
+    &[1, 2, 3, 4, 5, 6, 7, 12],
 ];
 
 /// How often something was tried, how often it ended with each refusal (0: with none), and what came of it.
 #[derive(Clone, Copy, Default)]
 pub struct Count {
     pub tried: u64,
-    pub ended: [u64; 12],
+    pub ended: [u64; 13],
     pub calls: u64,
     pub unseen: u64,
 }
@@ -32,6 +34,7 @@ pub struct Tally {
     pub calls: [Count; NAMES.len()],
     pub damage: [Count; KINDS.len()],
     pub texts: [Count; FAULTS.len()],
+    pub trays: [Count; SORTS.len()],
     pub histories: u64,
     pub differences: u64,
 }
@@ -39,7 +42,7 @@ pub struct Tally {
 impl Count {
     fn end(&mut self, refusal: usize) {
         self.tried += 1;
-        self.ended[refusal.min(11)] += 1;
+        self.ended[refusal.min(12)] += 1;
     }
 }
 
@@ -49,6 +52,7 @@ impl Tally {
             calls: [Count::default(); NAMES.len()],
             damage: [Count::default(); KINDS.len()],
             texts: [Count::default(); FAULTS.len()],
+            trays: [Count::default(); SORTS.len()],
             histories: 0,
             differences: 0,
         }
@@ -60,8 +64,8 @@ impl Tally {
         if let Some(kind) = damage {
             self.damage[kind].calls += 1;
         }
-        if let Call::TakeIn(_, fault) = call {
-            self.texts[*fault].end(answer.refusal);
+        if let Some(count) = self.given(call) {
+            count.end(answer.refusal);
         }
     }
 
@@ -71,8 +75,17 @@ impl Tally {
         if let Some(kind) = damage {
             self.damage[kind].unseen += 1;
         }
-        if let Call::TakeIn(_, fault) = call {
-            self.texts[*fault].unseen += 1;
+        if let Some(count) = self.given(call) {
+            count.unseen += 1;
+        }
+    }
+
+    /// The count of what this call was given to read, where there is one.
+    fn given(&mut self, call: &Call) -> Option<&mut Count> {
+        match call {
+            Call::TakeIn(_, fault) => Some(&mut self.texts[*fault]),
+            Call::Tray(_, sort) => Some(&mut self.trays[*sort]),
+            _ => None,
         }
     }
 
@@ -85,7 +98,7 @@ impl Tally {
         self.calls.iter().map(|count| count.tried).sum()
     }
 
-    /// What never occurred though it can: a call accepted, a call's refusal, a kind of damage, a text's fault.
+    /// What never occurred though it can: a call accepted, a call's refusal, a kind of damage, a text's fault, how a sort of tray ends.
     pub fn missing(&self) -> Vec<String> {
         let mut missing = Vec::new();
         for (number, count) in self.calls.iter().enumerate() {
@@ -103,6 +116,10 @@ impl Tally {
         missing.extend(kinds.map(|i| KINDS[i].0.to_string()));
         let faults = (0..FAULTS.len()).filter(|i| none(&self.texts, *i));
         missing.extend(faults.map(|i| format!("text with {}", FAULTS[i].0)));
+        for (sort, count) in SORTS.iter().zip(&self.trays) {
+            let never = sort.ends.iter().filter(|end| count.ended[**end] == 0);
+            missing.extend(never.map(|end| format!("tray of {} that ends with {end}", sort.name)));
+        }
         missing
     }
 }

@@ -15,7 +15,7 @@ pub fn start(k: usize, c: usize, keys: &mut [i64], links: &mut [usize]) -> Answe
     }
 }
 
-/// Add: refusal 5 comes before 7.
+/// Add: one entry put in.
 pub fn add(
     head: Head,
     keys: &mut [i64],
@@ -24,20 +24,13 @@ pub fn add(
     entry: Entry,
 ) -> Answer {
     let worked = open_with_scratch(head, keys, links, scratch).and_then(|mut pool| {
-        let entry = own_fields(entry, head.k);
-        if tree::holds(&pool.tree, &entry, 0, head.k) {
-            return Err(Refusal::plain(5));
-        }
-        if pool.chain.is_empty() {
-            return Err(Refusal::plain(7));
-        }
-        place(&mut pool, entry);
+        put_in(&mut pool, entry)?;
         Ok(pool)
     });
     finish(worked, head, keys, links, scratch)
 }
 
-/// Strike: the slot given up becomes the front of the chain.
+/// Strike: one entry taken out.
 pub fn strike(
     head: Head,
     keys: &mut [i64],
@@ -46,13 +39,7 @@ pub fn strike(
     entry: Entry,
 ) -> Answer {
     let worked = open_with_scratch(head, keys, links, scratch).and_then(|mut pool| {
-        let entry = own_fields(entry, head.k);
-        if !tree::holds(&pool.tree, &entry, 0, head.k) {
-            return Err(Refusal::plain(6));
-        }
-        if let Some(slot) = tree::strike(&mut pool.tree, &entry, 0, head.k) {
-            pool.chain.insert(0, slot);
-        }
+        take_out(&mut pool, entry)?;
         Ok(pool)
     });
     finish(worked, head, keys, links, scratch)
@@ -87,7 +74,10 @@ pub fn take_in(
     text: &[u8],
 ) -> Answer {
     let worked = open_with_scratch(head, keys, links, scratch).and_then(|mut pool| {
-        let saved = parse(text).map_err(|line| Refusal { number: 9, line })?;
+        let saved = parse(text).map_err(|line| Refusal {
+            line,
+            ..Refusal::plain(9)
+        })?;
         if saved.fields != head.k {
             return Err(Refusal::plain(10));
         }
@@ -97,21 +87,41 @@ pub fn take_in(
             return Err(Refusal::plain(7));
         }
         for entry in new {
-            place(&mut pool, entry);
+            put_in(&mut pool, entry)?;
         }
         Ok(pool)
     });
     finish(worked, head, keys, links, scratch)
 }
 
-/// Puts an entry that is not yet there into the first free slot of a pool that has one.
-fn place(pool: &mut Pool, entry: Entry) {
+/// Puts an entry into the first free slot of a pool; refusal 5 comes before 7.
+pub fn put_in(pool: &mut Pool, entry: Entry) -> Result<(), Refusal> {
+    let entry = own_fields(entry, pool.k);
+    if tree::holds(&pool.tree, &entry, 0, pool.k) {
+        return Err(Refusal::plain(5));
+    }
+    if pool.chain.is_empty() {
+        return Err(Refusal::plain(7));
+    }
     let slot = pool.chain.remove(0);
     tree::add(&mut pool.tree, (slot, entry), 0, pool.k);
+    Ok(())
+}
+
+/// Takes an entry out of a pool; the slot given up becomes the front of the chain.
+pub fn take_out(pool: &mut Pool, entry: Entry) -> Result<(), Refusal> {
+    let entry = own_fields(entry, pool.k);
+    if !tree::holds(&pool.tree, &entry, 0, pool.k) {
+        return Err(Refusal::plain(6));
+    }
+    if let Some(slot) = tree::strike(&mut pool.tree, &entry, 0, pool.k) {
+        pool.chain.insert(0, slot);
+    }
+    Ok(())
 }
 
 /// Ends a call that borrows scratch: nothing written where it was refused, else the image and a clean scratch.
-fn finish(
+pub fn finish(
     worked: Result<Pool, Refusal>,
     head: Head,
     keys: &mut [i64],

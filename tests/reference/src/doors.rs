@@ -23,16 +23,27 @@ pub fn open(head: Head, keys: &[i64], links: &[usize]) -> Result<Pool, Refusal> 
     Pool::read(head, keys, links).ok_or(Refusal::plain(4))
 }
 
-/// Refusals 1 to 4 of a call that borrows scratch, whose length is refusal 3's too.
+/// Refusals 1 to 3 of a call that borrows scratch, whose length is refusal 3's too.
+pub fn check_with_scratch(
+    head: Head,
+    keys: &[i64],
+    links: &[usize],
+    scratch: &[usize],
+) -> Result<(), Refusal> {
+    check_lists(head.k, head.c, keys, links)?;
+    if scratch.len() != head.c {
+        return Err(Refusal::plain(3));
+    }
+    Ok(())
+}
+
+/// Refusals 1 to 4 of a call that borrows scratch.
 pub fn open_with_scratch(
     head: Head,
     keys: &[i64],
     links: &[usize],
     scratch: &[usize],
 ) -> Result<Pool, Refusal> {
-    check_lists(head.k, head.c, keys, links)?;
-    if scratch.len() != head.c {
-        return Err(Refusal::plain(3));
-    }
+    check_with_scratch(head, keys, links, scratch)?;
     open(head, keys, links)
 }

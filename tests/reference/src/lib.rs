@@ -11,10 +11,12 @@ pub mod pool;
 pub mod questions;
 pub mod show;
 pub mod text;
+pub mod tray;
 pub mod tree;
 pub mod types;
 
 pub use calls::{add, save, start, strike, take_in};
 pub use questions::{count, list, look_up, nearest};
 pub use show::show;
+pub use tray::tray;
 pub use types::{Answer, Bound, Entry, Head, Outcome};

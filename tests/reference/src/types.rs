@@ -46,19 +46,25 @@ pub struct Answer {
     pub count: usize,
     pub bytes: usize,
     pub line: usize,
+    pub place: usize,
 }
 
-/// A reason to say no: the table's number, and the line where the number is 9.
+/// A reason to say no: the table's number, the line where the number is 9, the place where an item of a tray is to blame.
 #[derive(Clone, Copy, Debug, PartialEq, Eq)]
 pub struct Refusal {
     pub number: u32,
     pub line: usize,
+    pub place: usize,
 }
 
 impl Refusal {
-    /// A refusal that names no line.
+    /// A refusal that names no line and no place.
     pub fn plain(number: u32) -> Refusal {
-        Refusal { number, line: 0 }
+        Refusal {
+            number,
+            line: 0,
+            place: 0,
+        }
     }
 }
 
@@ -75,13 +81,15 @@ impl Answer {
             count: 0,
             bytes: 0,
             line: 0,
+            place: 0,
         }
     }
 
-    /// The answer of a refused call: this head, the number and its line.
+    /// The answer of a refused call: this head, the number, its line and its place.
     pub fn refused(refusal: Refusal, head: Head) -> Answer {
         Answer {
             line: refusal.line,
+            place: refusal.place,
             ..Answer::bare(Outcome::Refused(refusal.number), head)
         }
     }

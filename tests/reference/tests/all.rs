@@ -16,3 +16,5 @@ mod program;
 mod slips;
 mod texts;
 mod traps;
+mod tray;
+mod trays;

@@ -6,11 +6,12 @@ use reference::{Answer, Bound, Outcome};
 /// A call's name and what it answered.
 pub type Asked = (&'static str, Answer);
 
-/// The three calls that borrow scratch; take in gets no text at all.
+/// The four calls that borrow scratch; take in gets no text at all, the tray two adds of the entry that add gets.
 pub fn ask_writers(lent: &Lent) -> Vec<Asked> {
     let entry = noisy(&[]);
+    let add = [&[1], &entry.f[..lent.head.k.min(4)]].concat();
     let mut asked = Vec::new();
-    for name in ["add", "strike", "take_in"] {
+    for name in ["add", "strike", "take_in", "tray"] {
         let mut copy = lent.clone();
         let Lent {
             head,
@@ -21,7 +22,8 @@ pub fn ask_writers(lent: &Lent) -> Vec<Asked> {
         let answer = match name {
             "add" => reference::add(*head, keys, links, scratch, entry),
             "strike" => reference::strike(*head, keys, links, scratch, entry),
-            _ => reference::take_in(*head, keys, links, scratch, b""),
+            "take_in" => reference::take_in(*head, keys, links, scratch, b""),
+            _ => reference::tray(*head, keys, links, scratch, &[&add[..], &add].concat()),
         };
         if matches!(answer.outcome, Outcome::Refused(_)) {
             assert_eq!(copy, *lent, "a refused {name} wrote");

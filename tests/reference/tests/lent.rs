@@ -48,7 +48,18 @@ pub fn steps(steps: &[u64]) -> [u64; 4] {
 
 /// The answer of a refused call.
 pub fn refused(number: u32, line: usize, head: Head) -> Answer {
-    Answer::refused(Refusal { number, line }, head)
+    Answer {
+        line,
+        ..Answer::refused(Refusal::plain(number), head)
+    }
+}
+
+/// The answer of a tray that is refused for the item at this place.
+pub fn refused_at(number: u32, place: usize, head: Head) -> Answer {
+    Answer {
+        place,
+        ..refused(number, 0, head)
+    }
 }
 
 /// The answer of an accepted call that has no value of its own.
@@ -91,7 +102,9 @@ impl Lent {
         );
         if let Outcome::Refused(number) = answer.outcome {
             assert_eq!(*self, before, "a refused call wrote");
-            assert_eq!(answer, refused(number, answer.line, before.head));
+            let said = refused(number, answer.line, before.head);
+            let place = answer.place;
+            assert_eq!(answer, Answer { place, ..said });
         } else {
             assert!(self.scratch.iter().all(|v| *v == 0), "scratch left dirty");
             assert_eq!(answer, done(answer.head));
@@ -116,6 +129,10 @@ impl Lent {
         self.write(&|head, keys, links, scratch| {
             reference::take_in(head, keys, links, scratch, text)
         })
+    }
+
+    pub fn tray(&mut self, items: &[i64]) -> Answer {
+        self.write(&|head, keys, links, scratch| reference::tray(head, keys, links, scratch, items))
     }
 
     pub fn look_up(&self, f: &[i64]) -> Answer {

@@ -115,6 +115,7 @@ fn a_sound_pool_gives_each_call_its_own_refusal() {
         Outcome::Refused(5),
         Outcome::Done,
         Outcome::Refused(9),
+        Outcome::Refused(5),
         Outcome::Done,
         Outcome::Refused(8),
         Outcome::Refused(11),
