@@ -12,8 +12,8 @@ step() { # NAME COMMAND..: one test, its output shown only where it fails
 }
 every_crate_listed() {
     for folder in crates/*/; do
-        name=$(basename "$folder")
-        grep -q "^$name:" crates.txt || { echo "crates/$name is not listed in crates.txt"; return 1; }
+        crate=$(basename "$folder")
+        grep -q "^$crate:" crates.txt || { echo "crates/$crate is not listed in crates.txt"; return 1; }
     done
 }
 proved() { # the prover's gate, which counts crates, must-fail edits and programs
