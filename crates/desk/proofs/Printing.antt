@@ -13,8 +13,8 @@ use Rattle.model.specs.Tree.{entriesOf}
 use Rattle.model.specs.Text.{pairs, title, entryLines, textOf}
 use Rattle.cells.specs.Slots.{numbersOf, addressOf}
 use Rattle.cells.proofs.Slots.{numbers-long, part-at}
-use Rattle.text.specs.Place.{written, Puts}
-use Rattle.text.proofs.Places.{written-none, written-join, written-length}
+use Rattle.print.specs.Place.{written, Puts}
+use Rattle.print.proofs.Places.{written-none, written-join, written-length}
 use Rattle.rank.specs.Ranking.{itemsAt, InTable}
 use Rattle.desk.specs.Saving.{textIn, Measured}
 

@@ -15,7 +15,7 @@ use Rattle.model.specs.declared.Shape.{Shape}
 use Rattle.model.proofs.Strikes.{slots}
 use Rattle.cells.specs.Slots.{Room}
 use Rattle.cells.specs.Memory.{Rep}
-use Rattle.text.specs.Place.{written}
+use Rattle.print.specs.Place.{written}
 use Rattle.ask.specs.Standing.{Stands, Standing}
 use Rattle.rank.specs.Ranking.{itemsAt, InTables, Ranked}
 use Rattle.rank.specs.Rebuilding.{Fitting, Gathered}

@@ -6,7 +6,7 @@ ghost use Prim.Native.Nat.{_+_, _≤_};
 ghost use lib.ListN.{length};
 ghost use Rattle.model.specs.Text.{pairs};
 ghost use Rattle.cells.specs.Slots.{numbersOf, Room};
-ghost use Rattle.text.specs.Place.{written, Puts};
+ghost use Rattle.print.specs.Place.{written, Puts};
 ghost use Rattle.ask.specs.Standing.{Standing};
 ghost use Rattle.rank.specs.Ranking.{InTable, InTables};
 ghost use Rattle.desk.specs.Saving.{textIn, Measured, PrintedWith};
@@ -25,7 +25,7 @@ pub fn slot_length(keys: &[i64], shape: Shape, s: usize) -> usize
     let k = shape.k;
     let i = cells::slot::address(shape, s);
     let z = i + k;
-    text::line_length(&keys[i..z])
+    print::line_length(&keys[i..z])
 }
 
 // The line of a slot written from a place on; returns the place behind it.
@@ -37,7 +37,7 @@ pub fn put_slot(keys: &[i64], shape: Shape, s: usize, room: &mut [u8], at: usize
     let k = shape.k;
     let i = cells::slot::address(shape, s);
     let z = i + k;
-    text::put_line(room, at, &keys[i..z])
+    print::put_line(room, at, &keys[i..z])
 }
 
 // The length of the text of ranked slots, counted as long as it fits.
@@ -45,7 +45,7 @@ pub fn measure(keys: &[i64], shape: Shape, slots: &[usize], most: usize) -> Prin
     requires { ⌜ (shape .k ≤ 4) × InTables (shape .k) (length (now keys)) (now slots) ⌝ }
     ensures { λ r. ⌜ Measured (textIn (shape .k) (now (keys .entry)) (now (slots .entry))) most r ⌝ }
 {
-    let mut bytes = text::title_length(shape.k, slots.len());
+    let mut bytes = print::title_length(shape.k, slots.len());
     if most < bytes {
         return Printed { bytes, fits: false };
     }
@@ -67,7 +67,7 @@ pub fn write_text(keys: &[i64], shape: Shape, slots: &[usize], room: &mut [u8])
     requires { ⌜ length (textIn (shape .k) (now keys) (now slots)) ≤ length (now room) ⌝ }
     ensures { λ _. ⌜ now (room .exit) ≡ written (now (room .entry)) 0 (textIn (shape .k) (now (keys .entry)) (now (slots .entry))) ⌝ }
 {
-    let mut to = text::put_title(room, 0, shape.k, slots.len());
+    let mut to = print::put_title(room, 0, shape.k, slots.len());
     let mut i: usize = 0;
     while i < slots.len() {
         to = put_slot(keys, shape, slots[i], room, to);

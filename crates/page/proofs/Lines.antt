@@ -9,7 +9,7 @@ use Rattle.model.specs.Text.{decimal, pairs}
 use Rattle.model.specs.Answer.{numberOf}
 use Rattle.model.specs.Show.{entriesIs, heightIs, freeIs, slotIs, depthIs, cutIs, refusedIs, lineIs, refusalLine}
 use Rattle.model.specs.declared.Refusal.{Refusal}
-use Rattle.text.specs.Place.{Puts}
+use Rattle.print.specs.Place.{Puts}
 use Rattle.page.specs.Trees.{entryLine, totals}
 use Rattle.page.proofs.Pieces.{first-fits, next-fits, join, one}
 

@@ -4,8 +4,8 @@ use mathlib.Core.List.{List, [], _∷_, _++_}
 use Prim.Native.Nat.{ℕ, _+_, _≤_, _<_}
 use native.Mathlib.Omega.{arith}
 use lib.ListN.{length, set, length-append, length-set}
-use Rattle.text.specs.Place.{written, Puts}
-use Rattle.text.proofs.Places.{written-none, written-join, written-length, written-one}
+use Rattle.print.specs.Place.{written, Puts}
+use Rattle.print.proofs.Places.{written-none, written-join, written-length, written-one}
 
 -- the first of two pieces has room, and so has the second behind it
 pub first-fits : (room : List ℕ) (at : ℕ) (a b : List ℕ) → at + length (a ++ b) ≤ length room → at + length a ≤ length room

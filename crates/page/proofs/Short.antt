@@ -17,9 +17,9 @@ use Rattle.cells.specs.Slots.{numbersOf}
 use Rattle.cells.proofs.Slots.{numbers-long}
 use Rattle.rank.specs.Ranking.{InTable}
 use Rattle.desk.proofs.Rooms.{back-in}
-use Rattle.text.specs.Place.{Puts}
-use Rattle.text.proofs.Decimals.{decimal-short}
-use Rattle.text.proofs.Signs.{signed-short}
+use Rattle.print.specs.Place.{Puts}
+use Rattle.print.proofs.Decimals.{decimal-short}
+use Rattle.print.proofs.Signs.{signed-short}
 use Rattle.page.specs.Trees.{entryLine, totals, PutEntry}
 use Rattle.page.proofs.Bits.{Small, front-small}
 

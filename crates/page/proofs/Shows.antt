@@ -11,7 +11,7 @@ use borrow.Author.Tests.{lt-ltb, le-ltb}
 use Rattle.model.specs.Text.{Parsed, broken, saved, parse}
 use Rattle.model.specs.Show.{tooLong, refusalLine, shownText, program}
 use Rattle.model.specs.declared.Refusal.the-variants.{Text}
-use Rattle.text.specs.Place.{Puts}
+use Rattle.print.specs.Place.{Puts}
 use Rattle.text.specs.Told.{summed}
 use Rattle.text.specs.declared.Saved.{Saved}
 use Rattle.text.specs.declared.Saved.the-variants.{Broken, Book}

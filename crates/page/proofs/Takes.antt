@@ -28,7 +28,7 @@ use Rattle.model.proofs.Takes.{step-take}
 use Rattle.model.proofs.Texts.{Taken, only-saved}
 use Rattle.model.proofs.Trees.{pair}
 use Rattle.desk.specs.Changes.{Sound}
-use Rattle.text.specs.Place.{Puts}
+use Rattle.print.specs.Place.{Puts}
 use Rattle.page.specs.Texts.{SavedIn}
 
 -- the print of an answer, by its outcome

@@ -18,7 +18,7 @@ use Rattle.cells.specs.Memory.{Rep}
 use Rattle.cells.proofs.Reps.{rep-bound, tall-rep}
 use Rattle.desk.specs.Changes.{Sound}
 use Rattle.desk.proofs.Held.{rep-of}
-use Rattle.text.specs.Place.{Puts}
+use Rattle.print.specs.Place.{Puts}
 use Rattle.page.specs.Trees.{totals, Printable, PutTree}
 use Rattle.page.proofs.Pieces.{long, join}
 use Rattle.page.proofs.Short.{totals-short}

@@ -14,7 +14,7 @@ use Rattle.cells.proofs.Slots.{tall-slot}
 use Rattle.cells.proofs.Reps.{Node, open-node, open-nil, tall-rep, unique}
 use Rattle.ask.proofs.Walks.{keyed-in}
 use Rattle.rank.specs.Ranking.{InTable}
-use Rattle.text.specs.Place.{Puts}
+use Rattle.print.specs.Place.{Puts}
 use Rattle.page.specs.Trees.{entryLine, PutEntry, Printable, PutTree}
 use Rattle.page.proofs.Pieces.{next-fits, join, long, nothing}
 

@@ -9,7 +9,7 @@ use Rattle.model.specs.Text.{decimal, pairs}
 use Rattle.model.specs.Show.{entriesIs, heightIs, freeIs, slotIs, depthIs, cutIs, treeLines}
 use Rattle.cells.specs.Slots.{numbersOf}
 use Rattle.cells.specs.Memory.{Rep}
-use Rattle.text.specs.Place.{Puts}
+use Rattle.print.specs.Place.{Puts}
 
 -- the line of the entry e in slot s at depth t
 unfoldable pub entryLine : ℕ → ℕ → ℕ → Entry → List ℕ

@@ -17,7 +17,7 @@ pub fn shown(input: &[u8], room: &mut [u8; ROOM]) -> usize
     ensures { λ r. ⌜ Shown (now (input .entry)) (now (room .entry)) (now (room .exit)) r ⌝ }
 {
     if 32768 < input.len() {
-        return text::put_bytes(room, 0, b"too_long=32768\n");
+        return print::put_bytes(room, 0, b"too_long=32768\n");
     }
     let saved = text::take_apart(input);
     match saved {

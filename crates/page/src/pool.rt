@@ -9,7 +9,7 @@ ghost use lib.ListN.{length};
 ghost use Rattle.model.specs.Pool.{bookOf};
 ghost use Rattle.model.specs.Show.{bookLines};
 ghost use Rattle.desk.specs.Changes.{Sound};
-ghost use Rattle.text.specs.Place.{Puts};
+ghost use Rattle.print.specs.Place.{Puts};
 ghost use Rattle.page.specs.Trees.{totals};
 
 // The first line, with its LF.

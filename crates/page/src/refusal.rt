@@ -6,7 +6,7 @@ ghost use Prim.Native.Nat.{_≤_};
 ghost use lib.ListN.{length};
 ghost use Rattle.model.specs.Answer.{numberOf};
 ghost use Rattle.model.specs.Show.{refusalLine};
-ghost use Rattle.text.specs.Place.{Puts};
+ghost use Rattle.print.specs.Place.{Puts};
 
 // The paper's number of a refusal.
 pub fn number_of(why: Refusal) -> usize

@@ -11,7 +11,7 @@ ghost use Rattle.model.specs.Gate.{reading};
 ghost use Rattle.model.specs.Show.{takenLines, shownText};
 ghost use Rattle.model.specs.Text.{parse};
 ghost use Rattle.desk.specs.Changes.{Sound};
-ghost use Rattle.text.specs.Place.{Puts};
+ghost use Rattle.print.specs.Place.{Puts};
 ghost use Rattle.page.specs.Texts.{SavedIn};
 
 // The book, or the refusal.

@@ -28,7 +28,7 @@ pub fn put_entry(
     let a = put_number(room, at, b"slot=", s);
     let b = put_number(room, a, b" depth=", depth);
     let c = put_cut(room, b, depth % k);
-    text::put_line(room, c, &f[..k])
+    print::put_line(room, c, &f[..k])
 }
 
 // The lines of the tree at s, whose root is at a depth; returns the place behind them.

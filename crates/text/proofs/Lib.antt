@@ -1,9 +1,4 @@
--- The laws of printing and of taking apart.
-pub mod Places
-pub mod Decimals
-pub mod Signs
-pub mod Writes
-pub mod Rows
+-- The laws of taking apart.
 pub mod Readings
 pub mod Pairs
 pub mod NumberBack

@@ -14,14 +14,14 @@ use Rattle.model.specs.declared.Entry.{Entry as Four}
 use Rattle.model.specs.Number.{inRange}
 use Rattle.model.specs.Text.{ranged, signed}
 use Rattle.model.proofs.Trees.{both, pair}
-use Rattle.text.specs.Line.{endByte, ended, pairOf}
+use Rattle.print.specs.Line.{endByte, ended, pairOf}
 use Rattle.text.specs.Strict.{Entirely, Signedly, closed, consed, lineAt, numberAt, pairAt}
 use Rattle.text.specs.Told.{told, LineRead, ReadBack, Stands}
 use Rattle.text.specs.declared.line.Line.{Line}
 use Rattle.text.proofs.Pairs.{closed-at, line-step, line-stop, open-at, right-at, wrong-at}
 use Rattle.text.proofs.NumberBack.{number-complete, number-sound}
 use Rattle.text.proofs.Readings.{not-none, unsome}
-use Rattle.text.proofs.Rows.{ended-pairs}
+use Rattle.print.proofs.Rows.{ended-pairs}
 
 -- a pair
 closed-sound : (end : ℕ) (o : Signedly) (x : ℤ) (r : List ℕ) → closed end o ≡ some (x, r) → o ≡ some (x, end ∷ r)

@@ -13,7 +13,7 @@ use Rattle.model.specs.Text.{decimal, digits, signed}
 use Rattle.model.proofs.Prints.{decimal-back}
 use Rattle.model.proofs.Trees.{both, pair}
 use Rattle.text.specs.Strict.{Decimally, above, below, capped, decimalAt, grown, numberAt, small}
-use Rattle.text.proofs.Decimals.{decimal-behind, decimal-more, decimal-one}
+use Rattle.print.proofs.Decimals.{decimal-behind, decimal-more, decimal-one}
 use Rattle.text.proofs.Readings.{above-is, below-is, capped-step, capped-stop, decimal-by, grown-cap, grown-more, minus-at, not-none, plain-at, some-at, unsome, zero-at}
 
 -- what cannot go on a number

@@ -13,7 +13,7 @@ use lib.Seq.{drop-drop, drop-set-lt, take-suc-set}
 use borrow.Author.Tests.{eq-eqb, ne-eqb, not-false, not-true}
 use Rattle.model.specs.Entry.{Entry}
 use Rattle.model.proofs.Trees.{pair}
-use Rattle.text.specs.Line.{endByte}
+use Rattle.print.specs.Line.{endByte}
 use Rattle.text.specs.Strict.{Entirely, closed, consed, lineAt, numberAt, pairAt}
 use Rattle.text.specs.Told.{told}
 use Rattle.text.proofs.Readings.{front, left-false, right-false}

@@ -18,7 +18,7 @@ use Rattle.model.specs.Text.{minus}
 use Rattle.model.proofs.Trees.{both, pair}
 use Rattle.text.specs.Strict.{above, below, capped, decimalAt, grown, numberAt, small}
 use Rattle.text.specs.Told.{told}
-use Rattle.text.proofs.Signs.{minus-back}
+use Rattle.print.proofs.Signs.{minus-back}
 
 pub front : (text : List ℕ) (at : ℕ) → at < length text → drop at text ≡ getD text at 0 ∷ drop (at + 1) text
 front text at h = rw (add-one at) (drop-cons text at 0 h)

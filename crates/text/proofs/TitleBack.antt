@@ -13,14 +13,15 @@ use Rattle.model.proofs.Lists.{Every, every-join}
 use Rattle.model.proofs.Prints.{High, KN, Parted, cut-back, cut-join, decimal-high, title-back, title-line}
 use Rattle.model.proofs.Texts.{parse-by}
 use Rattle.model.proofs.Trees.{both, pair}
-use Rattle.text.specs.Strict.{Decimally, afterAt, entriesWord, fieldsWord, titleAt, titleEnd, titleFits, wordAt}
+use Rattle.text.specs.Strict.{Decimally, afterAt, titleAt, titleEnd, titleFits, wordAt}
+use Rattle.print.specs.Title.{entriesWord, fieldsWord}
 use Rattle.text.specs.Told.{told, summed}
 use Rattle.text.specs.declared.Saved.{Saved}
 use Rattle.text.specs.declared.Saved.the-variants.{Broken}
 use Rattle.text.proofs.NumberBack.{Stops, decimal-complete, decimal-sound}
 use Rattle.text.proofs.Readings.{not-none, unsome}
 use Rattle.text.proofs.Words.{end-right, end-wrong, title-first, title-second, title-through, word-next, word-other}
-use Rattle.text.proofs.Writes.{title-pieces}
+use Rattle.print.proofs.Writes.{title-pieces}
 
 -- a word
 word-sound : (w bs r : List ℕ) → wordAt w bs ≡ some r → bs ≡ w ++ r

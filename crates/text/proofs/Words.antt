@@ -9,7 +9,8 @@ use lib.Dec.{eqb, leb}
 use lib.ListN.{length, getD, drop, length-drop, drop-of-length-le}
 use borrow.Author.Tests.{eq-eqb, le-leb, lt-leb, ne-eqb, not-false, not-true}
 use Rattle.model.proofs.Trees.{pair}
-use Rattle.text.specs.Strict.{Decimally, afterAt, decimalAt, entriesWord, fieldsWord, titleAt, titleEnd, titleFits, wordAt}
+use Rattle.text.specs.Strict.{Decimally, afterAt, decimalAt, titleAt, titleEnd, titleFits, wordAt}
+use Rattle.print.specs.Title.{entriesWord, fieldsWord}
 use Rattle.text.specs.Told.{passed, told}
 use Rattle.text.proofs.Readings.{front, left-false, right-false}
 

@@ -1,5 +1,2 @@
-pub mod Place
-pub mod Sign
-pub mod Line
 pub mod Strict
 pub mod Told

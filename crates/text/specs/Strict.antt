@@ -6,7 +6,8 @@ use Prim.Native.Nat.{ℕ, zero, suc, _+_, _-_, _*_}
 use lib.Dec.{eqb, leb, ltb}
 use lib.IntN.{ℤ, pos, negsuc}
 use Rattle.model.specs.Entry.{Entry}
-use Rattle.text.specs.Line.{endByte}
+use Rattle.print.specs.Line.{endByte}
+use Rattle.print.specs.Title.{entriesWord, fieldsWord}
 
 -- One digit more. What passes 2^63 stays at 2^63 + 1, so that no sum wraps.
 unfoldable pub grown : ℕ → ℕ → ℕ
@@ -78,12 +79,6 @@ wordAt (w ∷ ws) (b ∷ bs) = elim (eqb b w) [ true ↦ wordAt ws bs | false �
 -- A word, then a decimal.
 unfoldable pub afterAt : List ℕ → List ℕ → Decimally
 afterAt word bs = elim (wordAt word bs) [ none ↦ none | some r ↦ decimalAt r ]
-
-abbrev pub fieldsWord : List ℕ
-fieldsWord = 98 ∷ 111 ∷ 111 ∷ 107 ∷ 61 ∷ 49 ∷ 32 ∷ 102 ∷ 105 ∷ 101 ∷ 108 ∷ 100 ∷ 115 ∷ 61 ∷ []
-
-abbrev pub entriesWord : List ℕ
-entriesWord = 32 ∷ 101 ∷ 110 ∷ 116 ∷ 114 ∷ 105 ∷ 101 ∷ 115 ∷ 61 ∷ []
 
 abbrev pub Titled : Type 0
 Titled = Option ((ℕ × ℕ) × List ℕ)

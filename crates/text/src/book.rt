@@ -2,14 +2,12 @@
 use crate::Saved;
 use crate::line::read_line;
 use crate::title::read_title;
+use cells::order::Order;
 ghost use mathlib.Core.Path.{_≡_};
 ghost use mathlib.Core.List.{List};
 ghost use mathlib.Core.Option.{some, none};
 ghost use Prim.Native.Nat.{ℕ, _+_, _≤_};
 ghost use lib.ListN.{length, take, drop};
-ghost use Rattle.model.specs.Entry.{lex};
-ghost use Rattle.model.specs.Number.{order};
-ghost use Rattle.model.specs.Tree.{isLess};
 ghost use Rattle.model.specs.Text.{body, cutLine, parse, rises};
 ghost use Rattle.text.specs.Told.{lastOf, summed};
 
@@ -28,31 +26,6 @@ pub fn first_entry(text: &[u8]) -> usize
     at
 }
 
-// The one signed test of the order.
-fn precedes(x: i64, y: i64) -> bool
-    ensures { λ r. ⌜ r ≡ isLess (order x y) ⌝ }
-{
-    x < y
-}
-
-// By the first of k numbers that differs.
-fn less(a: [i64; 4], b: [i64; 4], k: usize) -> bool
-    requires { ⌜ k ≤ 4 ⌝ }
-    ensures { λ r. ⌜ r ≡ isLess (lex (take k a) (take k b)) ⌝ }
-{
-    let mut i: usize = 0;
-    while i < k {
-        if precedes(a[i], b[i]) {
-            return true;
-        }
-        if precedes(b[i], a[i]) {
-            return false;
-        }
-        i += 1;
-    }
-    false
-}
-
 // Whether the entry behind i others comes after the last of them.
 fn follows(i: usize, last: [i64; 4], next: [i64; 4], k: usize) -> bool
     requires { ⌜ k ≤ 4 ⌝ }
@@ -61,7 +34,12 @@ fn follows(i: usize, last: [i64; 4], next: [i64; 4], k: usize) -> bool
     if i == 0 {
         return true;
     }
-    less(last, next, k)
+    let o = cells::order::in_order(&last[..k], &next[..k]);
+    match o {
+        Order::Less => true,
+        Order::Equal => false,
+        Order::Greater => false,
+    }
 }
 
 // n entry lines, then the end of the text; line numbers count from 2.

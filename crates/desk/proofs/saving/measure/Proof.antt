@@ -9,7 +9,7 @@ use Rattle.desk.proofs.saving.measure.Tie as tie
 use Rattle.desk.proofs.saving.measure.Reads as reads
 use Rattle.desk.proofs.saving.measure.Lts as lts
 use Rattle.desk.proofs.saving.slot_length.Reads as slot-length-reads
-use Rattle.text.proofs.title_length.Reads as title-length-reads
+use Rattle.print.proofs.title_length.Reads as title-length-reads
 
 abbrev Inv-loop : tie.InvT-loop
 Inv-loop keys shape slots most bytes₀ i₀ bytes i = Counted (shape .k) keys slots most bytes i

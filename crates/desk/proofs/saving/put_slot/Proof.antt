@@ -8,7 +8,7 @@ use Rattle.desk.proofs.saving.put_slot.Tie as tie
 use Rattle.desk.proofs.saving.put_slot.Reads as reads
 use Rattle.desk.proofs.saving.put_slot.Lts as lts
 use Rattle.cells.proofs.slot.address.Reads as address-reads
-use Rattle.text.proofs.put_line.Reads as put-line-reads
+use Rattle.print.proofs.put_line.Reads as put-line-reads
 
 address-requires : tie.Need-address-requires
 address-requires c κs = search needs

@@ -8,7 +8,7 @@ use Rattle.desk.proofs.saving.slot_length.Tie as tie
 use Rattle.desk.proofs.saving.slot_length.Reads as reads
 use Rattle.desk.proofs.saving.slot_length.Lts as lts
 use Rattle.cells.proofs.slot.address.Reads as address-reads
-use Rattle.text.proofs.line_length.Reads as line-length-reads
+use Rattle.print.proofs.line_length.Reads as line-length-reads
 
 address-requires : tie.Need-address-requires
 address-requires c κs = search needs

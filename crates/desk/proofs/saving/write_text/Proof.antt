@@ -9,7 +9,7 @@ use Rattle.desk.proofs.saving.write_text.Tie as tie
 use Rattle.desk.proofs.saving.write_text.Reads as reads
 use Rattle.desk.proofs.saving.write_text.Lts as lts
 use Rattle.desk.proofs.saving.put_slot.Reads as put-slot-reads
-use Rattle.text.proofs.put_title.Reads as put-title-reads
+use Rattle.print.proofs.put_title.Reads as put-title-reads
 
 abbrev Inv-loop : tie.InvT-loop
 Inv-loop keys shape slots room₀ to₀ i₀ room to i = Writing (shape .k) keys slots room₀ to₀ room to i

@@ -1,5 +1,5 @@
 -- -1 less what the magnitude is more than 1.
-use Rattle.text.proofs.Signs.{negative-back, negative-fits}
+use Rattle.print.proofs.Signs.{negative-back, negative-fits}
 use borrow.Author.Needs.{needs}
 use Rattle.text.proofs.number.negative.Statement.{statement}
 use Rattle.text.proofs.number.negative.Tie as tie
