@@ -29,10 +29,10 @@ use Rattle.rank.specs.Ranking.{itemsAt}
 use Rattle.rank.proofs.Merging.{rank-items, ranked-slots}
 use Rattle.rank.proofs.Shapes.{items-held}
 use Rattle.book.specs.Gates.{told, pooled}
-use Rattle.desk.specs.Listing.{numbersIn, rankedIn, FilledWith}
+use Rattle.sheet.specs.Listing.{numbersIn, rankedIn, FilledWith}
 use Rattle.book.specs.declared.gate.Gate.{Gate}
 use Rattle.book.specs.declared.gate.Gate.the-variants.{Open, Shut}
-use Rattle.desk.specs.declared.listing.Filled.{Filled}
+use Rattle.sheet.specs.declared.listing.Filled.{Filled}
 use Rattle.book.proofs.Counts.{reads-shut, reads-open}
 use Rattle.book.proofs.Pools.{behind-shut, behind-open, pool-stands, pool-rep, pool-distinct}
 

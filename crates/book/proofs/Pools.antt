@@ -16,10 +16,9 @@ use Rattle.model.specs.declared.Head.{Head}
 use Rattle.model.specs.declared.Refusal.{Refusal}
 use Rattle.model.specs.declared.Refusal.the-variants.{Unsound}
 use Rattle.model.proofs.Gates.{gate-on, gate-off}
-use Rattle.model.proofs.Listings.{items-length}
 use Rattle.model.proofs.Ranks.{Distinct}
 use Rattle.model.proofs.Adds.{ordered-distinct}
-use Rattle.model.proofs.Sounds.{Is, sound-is}
+use Rattle.model.proofs.Sounds.{Is}
 use Rattle.cells.specs.Slots.{Room}
 use Rattle.cells.specs.Memory.{Rep}
 use Rattle.ask.specs.Standing.{Stands, Standing}
@@ -28,7 +27,8 @@ use Rattle.book.specs.Gates.{told, fitting, pooled}
 use Rattle.book.specs.declared.gate.Gate.{Gate}
 use Rattle.book.specs.declared.gate.Gate.the-variants.{Open, Shut}
 use Rattle.book.proofs.Gates.{told-open, told-shut, no-scratch, room}
-use Rattle.desk.proofs.Held.{rep-of, few-of, ordered-of, first-cut}
+use Rattle.weigh.specs.Sounds.{Sound}
+use Rattle.weigh.proofs.Held.{its, its-rep, its-stands, its-standing, ordered-of}
 
 -- rows behind rows
 pub behind-shut : (rows more : List Row) (r : Refusal) → gate rows ≡ some r → gate (rows ++ more) ≡ some r
@@ -88,11 +88,14 @@ module _ (h : Head) (ks : List ℤ) (ls : List ℕ) (ns : ℕ) where
     pub pool-room : Room (shapeOf h) (length ks) (length ls)
     pool-room = room (h .k) (h .c) (length ks) (length ls) ns Open (sym (ap told front-open)) refl
 
+    pub pool-held : Sound h ks ls
+    pool-held = record { room = pool-room; good = is-sound }
+
     pub pool-is : Is h ks ls (bookOf h ks ls)
-    pool-is = sound-is h ks ls (pool-room .wide) (pool-room .long) is-sound
+    pool-is = its h ks ls pool-held
 
     pub pool-rep : Rep (h .k) ks ls (h .root) (bookOf h ks ls .tree)
-    pool-rep = rep-of h ks ls (pool-room .long) is-sound
+    pool-rep = its-rep h ks ls pool-held
 
     pub pool-distinct : Distinct (items (bookOf h ks ls .tree))
     pool-distinct = ordered-distinct 0 (bookOf h ks ls .tree) (pool-is .valid .ordered)
@@ -101,14 +104,10 @@ module _ (h : Head) (ks : List ℤ) (ls : List ℕ) (ns : ℕ) where
     pool-ordered = ordered-of h ks ls pool-is
 
     pub pool-stands : Stands (h .k) ks ls (h .root) 0 (bookOf h ks ls .tree)
-    pool-stands = record { depth = 0; cut = first-cut (h .k); rep = pool-rep; inOrder = pool-ordered }
+    pool-stands = its-stands h ks ls pool-held
 
     pub pool-standing : Standing (h .k) ks ls (h .root) 0 (h .c)
-    pool-standing = record { tree = bookOf h ks ls .tree; stands = pool-stands; few = rw (items-length (bookOf h ks ls .tree), pool-is .count) (few-of h ks ls is-sound) }
-
-    -- what a walk over the whole tree asks
-    pub pool-ready : Room (shapeOf h) (length ks) (length ls) × Standing (h .k) ks ls (h .root) 0 (h .c)
-    pool-ready = (pool-room, pool-standing)
+    pool-standing = its-standing h ks ls pool-held
 
   pub pool-refuses : (g : Gate) → g ≡ told (gate (pooled h ks ls ns)) → (r : Refusal) → g ≡ Shut r → gate (pooled h ks ls ns) ≡ some r
   pool-refuses g is r e = told-shut (gate (pooled h ks ls ns)) r (sym is ∙ e)

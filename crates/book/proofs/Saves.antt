@@ -21,10 +21,10 @@ use Rattle.model.specs.declared.Refusal.the-variants.{Room}
 use Rattle.model.specs.declared.Answer.{Answer}
 use Rattle.model.proofs.Gates.{gate-on, gate-off, checked-shut, checked-open}
 use Rattle.book.specs.Gates.{told, pooled}
-use Rattle.desk.specs.Saving.{Measured, PrintedWith}
+use Rattle.sheet.specs.Saving.{Measured, PrintedWith}
 use Rattle.book.specs.declared.gate.Gate.{Gate}
 use Rattle.book.specs.declared.gate.Gate.the-variants.{Open, Shut}
-use Rattle.desk.specs.declared.saving.Printed.{Printed}
+use Rattle.sheet.specs.declared.saving.Printed.{Printed}
 use Rattle.book.proofs.Counts.{reads-shut, reads-open}
 use Rattle.book.proofs.Pools.{behind-shut, behind-open, pool-stands}
 

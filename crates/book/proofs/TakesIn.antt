@@ -1,7 +1,7 @@
 -- Taking in as it is called: refused with nothing changed, the line with 9 alone; else what is new is added, and scratch is 0.
 use mathlib.Core.Path.{_≡_, refl, sym, ap, subst, _∙_}
 use mathlib.Core.Bool.{Bool, true, false, not}
-use mathlib.Core.Option.{none, some}
+use mathlib.Core.Option.{some}
 use mathlib.Core.List.{List, [], _∷_, _++_}
 use Prim.Native.Nat.{ℕ, _+_, _-_, _≤_, _<_}
 use native.Mathlib.Omega.{arith}
@@ -20,7 +20,7 @@ use Rattle.model.specs.Rebuild.{listing}
 use Rattle.model.specs.Text.{Parsed, broken, saved, parse}
 use Rattle.model.specs.declared.Head.{Head}
 use Rattle.model.specs.declared.Refusal.{Refusal}
-use Rattle.model.specs.declared.Refusal.the-variants.{Fields, Capacity, Lengths, Unsound, Full, Text, Mismatch}
+use Rattle.model.specs.declared.Refusal.the-variants.{Full, Text, Mismatch}
 use Rattle.model.specs.declared.Outcome.the-variants.{Done, Refused}
 use Rattle.model.specs.declared.Answer.{Answer}
 use Rattle.model.proofs.Gates.{gate-on, gate-off, checked-shut, checked-open}
@@ -28,9 +28,9 @@ use Rattle.model.proofs.Lists.{Every}
 use Rattle.text.specs.Told.{summed}
 use Rattle.text.specs.declared.Saved.{Saved}
 use Rattle.text.specs.declared.Saved.the-variants.{Broken, Book as Whole}
-use Rattle.desk.specs.Changes.{Sound, Became}
-use Rattle.desk.specs.Taking.{Saves}
-use Rattle.desk.proofs.Held.{few-of}
+use Rattle.desk.specs.Changes.{Became}
+use Rattle.weigh.specs.Saved.{Saves}
+use Rattle.weigh.proofs.Held.{few-of}
 use Rattle.book.specs.Gates.{told, pooled}
 use Rattle.book.specs.declared.gate.Gate.{Gate}
 use Rattle.book.specs.declared.gate.Gate.the-variants.{Open, Shut}

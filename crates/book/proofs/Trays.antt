@@ -20,10 +20,11 @@ use Rattle.model.specs.declared.Refusal.{Refusal}
 use Rattle.model.specs.declared.Refusal.the-variants.{Tray, Unsound}
 use Rattle.model.proofs.Gates.{gate-on, gate-off, gate-none}
 use Rattle.model.proofs.Trays.{tray-books}
-use Rattle.desk.specs.Changes.{Sound, Became}
-use Rattle.desk.specs.Judging.{firstOf}
-use Rattle.desk.specs.declared.judging.First.{First}
-use Rattle.desk.specs.declared.judging.First.the-variants.{Nothing, Item}
+use Rattle.weigh.specs.Sounds.{Sound}
+use Rattle.desk.specs.Changes.{Became}
+use Rattle.weigh.specs.Judging.{firstOf}
+use Rattle.weigh.specs.declared.judging.First.{First}
+use Rattle.weigh.specs.declared.judging.First.the-variants.{Nothing, Item}
 use Rattle.book.specs.Gates.{told, fitting, handed}
 use Rattle.book.specs.declared.gate.Gate.{Gate}
 use Rattle.book.specs.declared.gate.Gate.the-variants.{Open, Shut}

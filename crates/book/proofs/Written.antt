@@ -1,7 +1,7 @@
 -- Add and strike as they are called: each refusal leaves all as it was; else the pool is that of the new book and scratch is 0.
-use mathlib.Core.Path.{_≡_, refl, sym, ap, _∙_}
+use mathlib.Core.Path.{_≡_, sym, ap, _∙_}
 use mathlib.Core.Bool.{Bool, true, false, not}
-use mathlib.Core.Option.{none, some}
+use mathlib.Core.Option.{some}
 use mathlib.Core.List.{List, [], _∷_, _++_}
 use Prim.Native.Nat.{ℕ, _≤_, _<_}
 use native.Mathlib.Omega.{arith}
@@ -24,12 +24,13 @@ use Rattle.model.specs.declared.Outcome.the-variants.{Done}
 use Rattle.model.specs.declared.Answer.{Answer}
 use Rattle.model.proofs.Backs.{is-head}
 use Rattle.model.proofs.Gates.{gate-on, gate-off, checked-shut, checked-open}
-use Rattle.desk.specs.Changes.{Sound, Became}
+use Rattle.weigh.specs.Sounds.{Sound}
+use Rattle.desk.specs.Changes.{Became}
 use Rattle.book.specs.Gates.{told, pooled}
 use Rattle.book.specs.declared.gate.Gate.{Gate}
 use Rattle.book.specs.declared.gate.Gate.the-variants.{Open, Shut}
 use Rattle.book.proofs.Gates.{scratch-fits}
-use Rattle.book.proofs.Pools.{behind-shut, behind-open, all-open, pool-refuses, pool-room, is-sound, front-open}
+use Rattle.book.proofs.Pools.{behind-shut, behind-open, all-open, pool-refuses, pool-held, front-open}
 
 -- an answer and what is left in the three lent lists
 abbrev pub Leaves : After → Answer → List ℤ → List ℕ → List ℕ → Type 0
@@ -53,7 +54,7 @@ leaves-done a h r b ks ls sc x e w f z =
 -- what an open gate tells
 module _ (h : Head) (ks : List ℤ) (ls sc : List ℕ) (g : Gate) (is : g ≡ told (gate (pooled h ks ls (length sc)))) where
   pub sound-pool : g ≡ Open → Sound h ks ls
-  sound-pool o = record { room = pool-room h ks ls (length sc) g is o; good = is-sound h ks ls (length sc) g is o }
+  sound-pool o = pool-held h ks ls (length sc) g is o
 
   pub scratch-long : g ≡ Open → length sc ≡ h .c
   scratch-long o = scratch-fits (h .k) (h .c) (length ks) (length ls) (length sc) (front-open h ks ls (length sc) g is o)

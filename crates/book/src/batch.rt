@@ -2,10 +2,10 @@
 use crate::answer;
 use crate::gate;
 use crate::gate::Gate;
-use desk::judging::First;
 use model::Answer;
 use model::Head;
 use model::Outcome;
+use weigh::judging::First;
 ghost use mathlib.Core.Path.{_≡_};
 ghost use Rattle.model.specs.Tray as trays;
 
@@ -26,7 +26,7 @@ pub fn tray(
     if let Gate::Shut(why) = g {
         return answer::refused(head, why);
     }
-    let w = desk::judging::first_wrong(head, keys, links, items);
+    let w = weigh::judging::first_wrong(head, keys, links, items);
     if let First::Item(place, why) = w {
         return answer::refused_at(head, place, why);
     }

@@ -65,7 +65,7 @@ pub fn tray(head: Head, keys: &[i64], links: &[usize], scratch: usize, items: &[
     match g {
         Gate::Shut(why) => Gate::Shut(why),
         Gate::Open => {
-            if !desk::items::trayed(items, head.k) {
+            if !weigh::items::trayed(items, head.k) {
                 return Gate::Shut(Refusal::Tray);
             }
             if sound::is_sound(head, keys, links) {

@@ -60,7 +60,7 @@ pub fn look_up(head: Head, keys: &[i64], links: &[usize], entry: Entry) -> Answe
     }
     let w = ask::walk::walk_down(Shape { k, c }, head.root, entry, keys, links);
     match w {
-        Walk::Found(slot, reads) => answer::met(head, desk::cut::cut_to(entry, k), slot, reads),
+        Walk::Found(slot, reads) => answer::met(head, sheet::cut::cut_to(entry, k), slot, reads),
         Walk::Gone(reads) => answer::unmet(head, reads),
         Walk::Astray => answer::refused(head, Refusal::Unsound),
     }
@@ -70,13 +70,11 @@ pub fn look_up(head: Head, keys: &[i64], links: &[usize], entry: Entry) -> Answe
 pub fn count(head: Head, keys: &[i64], links: &[usize], bounds: [Bound; 4]) -> Answer
     ensures { λ r. ⌜ r ≡ calls.count head (now (keys .entry)) (now (links .entry)) bounds .answer ⌝ }
 {
-    let k = head.k;
-    let c = head.c;
-    let g = gate::pool(head, keys, links, c);
+    let g = gate::pool(head, keys, links, head.c);
     if let Gate::Shut(why) = g {
         return answer::refused(head, why);
     }
-    let n = desk::spare::count(keys, links, Shape { k, c }, head.root, bounds);
+    let n = sheet::spare::count(head, keys, links, bounds);
     answer::counted(head, n)
 }
 
@@ -91,13 +89,11 @@ pub fn list(
     ensures answer { λ r. ⌜ r ≡ calls.list head (now (keys .entry)) (now (links .entry)) bounds (now (room .entry)) .answer ⌝ }
     ensures room { λ _. ⌜ now (room .exit) ≡ calls.list head (now (keys .entry)) (now (links .entry)) bounds (now (room .entry)) .room ⌝ }
 {
-    let k = head.k;
-    let c = head.c;
-    let g = gate::pool(head, keys, links, c);
+    let g = gate::pool(head, keys, links, head.c);
     if let Gate::Shut(why) = g {
         return answer::refused(head, why);
     }
-    let f = desk::spare::list(keys, links, Shape { k, c }, head.root, bounds, room);
+    let f = sheet::spare::list(head, keys, links, bounds, room);
     if f.fits {
         return answer::counted(head, f.count);
     }
@@ -114,7 +110,7 @@ pub fn nearest(head: Head, keys: &[i64], links: &[usize], query: Entry, steps: [
     if let Gate::Shut(why) = g {
         return answer::refused(head, why);
     }
-    if desk::step::zero_step(steps, k) {
+    if weigh::step::zero_step(steps, k) {
         return answer::refused(head, Refusal::Step);
     }
     let none = Best {
@@ -156,7 +152,7 @@ pub fn add(
     if let Gate::Shut(why) = g {
         return answer::refused(head, why);
     }
-    if desk::change::is_there(head, keys, links, entry) {
+    if weigh::pool::is_there(head, keys, links, entry) {
         return answer::refused(head, Refusal::Present);
     }
     if head.n == c {
@@ -184,7 +180,7 @@ pub fn strike(
     if let Gate::Shut(why) = g {
         return answer::refused(head, why);
     }
-    if !desk::change::is_there(head, keys, links, entry) {
+    if !weigh::pool::is_there(head, keys, links, entry) {
         return answer::refused(head, Refusal::Missing);
     }
     rank::gather::clear(scratch);
@@ -197,13 +193,11 @@ pub fn save(head: Head, keys: &[i64], links: &[usize], room: &mut [u8]) -> Answe
     ensures answer { λ r. ⌜ r ≡ calls.save head (now (keys .entry)) (now (links .entry)) (now (room .entry)) .answer ⌝ }
     ensures page { λ _. ⌜ now (room .exit) ≡ calls.save head (now (keys .entry)) (now (links .entry)) (now (room .entry)) .page ⌝ }
 {
-    let k = head.k;
-    let c = head.c;
-    let g = gate::pool(head, keys, links, c);
+    let g = gate::pool(head, keys, links, head.c);
     if let Gate::Shut(why) = g {
         return answer::refused(head, why);
     }
-    let p = desk::spare::save(keys, links, Shape { k, c }, head.root, room);
+    let p = sheet::spare::save(head, keys, links, room);
     if p.fits {
         return answer::wrote(head, p.bytes);
     }
@@ -235,7 +229,7 @@ pub fn take_in(
             if fields != k {
                 return answer::refused(head, Refusal::Mismatch);
             }
-            let new = desk::taking::count_new(head, keys, links, text, lines);
+            let new = weigh::lines::count_new(head, keys, links, text, lines);
             if c - head.n < new {
                 return answer::refused(head, Refusal::Full);
             }

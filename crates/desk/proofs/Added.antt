@@ -1,14 +1,14 @@
 -- One entry added to a sound pool: the slot claimed, the leaf put in, and the pool of the new book.
 use mathlib.Core.Path.{_≡_, refl, sym, ap, subst, _∙_}
 use mathlib.Core.Logic.{inl, inr}
-use mathlib.Core.Bool.{true, false}
+use mathlib.Core.Bool.{false}
 use mathlib.Core.List.{List, [], _∷_, _++_}
-use Prim.Native.Nat.{ℕ, zero, suc, _+_, _*_, _≤_, _<_}
+use Prim.Native.Nat.{ℕ, _+_, _≤_, _<_}
 use native.Mathlib.Omega.{arith}
 use lib.ListN.{length}
 use lib.IntN.{ℤ}
 use Rattle.model.specs.Entry.{Entry}
-use Rattle.model.specs.Tree.{Item, Tree, nil, node, size, items}
+use Rattle.model.specs.Tree.{Item, nil, node, size}
 use Rattle.model.specs.Ask.{has}
 use Rattle.model.specs.Add.{insert}
 use Rattle.model.specs.Book.{Book, added, first, rest}
@@ -22,20 +22,20 @@ use Rattle.model.proofs.Crowd.{InPool}
 use Rattle.model.proofs.Listings.{items-length}
 use Rattle.model.proofs.Lists.{Every, Once-each, once-split, perm-length}
 use Rattle.model.proofs.Ranks.{Unlike}
-use Rattle.model.proofs.Sounds.{Is}
 use Rattle.model.proofs.Strikes.{slots}
 use Rattle.model.proofs.Trees.{All}
-use Rattle.cells.specs.Slots.{numbersOf, leftAt, Slot, Keyed}
+use Rattle.cells.specs.Slots.{Slot, Keyed}
 use Rattle.cells.specs.Memory.{Rep, In, Same, Frame, Claimed}
 use Rattle.cells.proofs.Reps.{rep-frame, frame-trans, link-cells}
 use Rattle.rank.proofs.Shapes.{every-in}
 use Rattle.alter.proofs.Struck.{every-of}
 use Rattle.alter.specs.Alters.{Insertable, Inserted}
 use Rattle.seek.specs.Sides.{itemIn}
-use Rattle.desk.specs.Changes.{Sound, Became}
-use Rattle.desk.proofs.Changes.{Chain, its, its-rep, its-chain, its-once, its-pool, pool-slot, chain-apart, chain-kept, put-together}
-use Rattle.desk.proofs.Held.{first-cut}
-use Rattle.desk.proofs.There.{has-unlike}
+use Rattle.weigh.specs.Sounds.{Sound}
+use Rattle.weigh.proofs.Held.{first-cut, its, its-rep}
+use Rattle.weigh.proofs.There.{has-unlike}
+use Rattle.desk.specs.Changes.{Became}
+use Rattle.desk.proofs.Changes.{Chain, its-chain, its-once, its-pool, pool-slot, chain-apart, chain-kept, put-together}
 
 front : (cs : List ℕ) → 1 ≤ length cs → cs ≡ first cs ∷ rest cs
 front [] h = absurd (omega arith)

@@ -7,12 +7,11 @@ use native.Mathlib.Decide.{decLe}
 use native.Mathlib.Nat.{mul-le-mul-left}
 use native.Mathlib.Numerals.{add-one}
 use native.Mathlib.Omega.{arith}
-use lib.Dec.{eqb}
 use lib.ListN.{length, getD, set, take, drop, replicate, length-append, length-drop, length-replicate}
 use lib.Seq.{drop-cons, set-at}
 use lib.IntN.{ℤ, pos}
 use borrow.Author.Tests.{eq-eqb, ne-eqb}
-use mathlib.Core.Option.{none, some}
+use mathlib.Core.Option.{some}
 use Rattle.model.specs.Book.{Cell, upFrom, first, behind, fresh, cellIn, cell, links, keys}
 use Rattle.model.specs.Pool.{cellOf}
 use Rattle.model.proofs.Crowd.{InPool}

@@ -1,31 +1,31 @@
 -- A sound pool taken apart, and the pool of a changed book put together.
-use mathlib.Core.Path.{_≡_, refl, sym, ap, subst, _∙_}
+use mathlib.Core.Path.{_≡_, refl, sym, ap, _∙_}
 use mathlib.Core.Bool.{true}
-use mathlib.Core.List.{List, [], _∷_, _++_, Permᴰ·symm}
-use Prim.Native.Nat.{ℕ, zero, suc, _+_, _*_, _≤_, _<_}
+use mathlib.Core.List.{List, _++_, Permᴰ·symm}
+use Prim.Native.Nat.{ℕ, _+_, _*_, _≤_}
 use native.Mathlib.Omega.{arith}
-use lib.ListN.{length, replicate}
-use lib.IntN.{ℤ, pos}
-use Rattle.model.specs.Tree.{Tree, rootSlot, size}
-use Rattle.model.specs.Book.{Book, Cell, first, rest, upFrom}
+use lib.ListN.{length}
+use lib.IntN.{ℤ}
+use Rattle.model.specs.Tree.{size}
+use Rattle.model.specs.Book.{Book, Cell, first}
 use Rattle.model.specs.Pool.{cellOf, treeFrom, chainFrom, bookOf, sound}
 use Rattle.model.specs.declared.Head.{Head}
 use Rattle.model.proofs.Books.{Valid, Follows, follows-map, up-every, up-once}
 use Rattle.model.proofs.Crowd.{InPool}
 use Rattle.model.proofs.Laid.{Blank, strung-follows}
 use Rattle.model.proofs.Lists.{Every, every-map, every-perm, every-split, every-both, Once-each, once-perm, once-split}
-use Rattle.model.proofs.Sounds.{fitting-fits, Is, sound-is, image-of, cell-is}
+use Rattle.model.proofs.Sounds.{fitting-fits, Is, image-of, cell-is}
 use Rattle.model.proofs.Strikes.{slots}
-use Rattle.cells.specs.Slots.{leftAt, rightAt, heightAt, numbersOf, Slot, Keyed, Room}
-use Rattle.cells.specs.Memory.{Rep, In, Same, Frame}
+use Rattle.cells.specs.Slots.{Slot, Keyed, Room}
+use Rattle.cells.specs.Memory.{Rep, In, Same}
 use Rattle.cells.proofs.Slots.{numbers-long}
 use Rattle.cells.proofs.Reps.{link-cells, rep-lies}
 use Rattle.rank.proofs.Shapes.{every-in}
 use Rattle.alter.proofs.Struck.{every-of}
 use Rattle.ask.proofs.Walks.{keyed-in}
 use Rattle.sound.specs.Parts.{shapeOf}
-use Rattle.desk.specs.Changes.{Sound, Became}
-use Rattle.desk.proofs.Held.{rep-of}
+use Rattle.weigh.specs.Sounds.{Sound}
+use Rattle.weigh.proofs.Held.{its}
 
 -- the chain of a sound pool, in its memory
 abbrev pub Chain : ℕ → List ℤ → List ℕ → List ℕ → Type 0
@@ -43,20 +43,14 @@ chain-of h ks ls m e =
     long s p = ap (λ (x : Cell). length (x .key)) (link-cells (h .k) ks ls s (p .0)) ∙ numbers-long (h .k) ks s (keyed-in (shapeOf h) (length ks) (length ls) s m (λ e. (let a = p .0 in omega arith)) (p .1))
 
 module _ (h : Head) (ks : List ℤ) (ls : List ℕ) (p : Sound h ks ls) where
-  pub its : Is h ks ls (bookOf h ks ls)
-  its = sound-is h ks ls (p .room .wide) (p .room .long) (p .good)
-
-  pub its-rep : Rep (h .k) ks ls (h .root) (bookOf h ks ls .tree)
-  its-rep = rep-of h ks ls (p .room .long) (p .good)
-
   pub its-chain : Chain (h .k) ks ls (bookOf h ks ls .chain)
   its-chain = chain-of h ks ls (p .room) (p .good)
 
   pub its-once : Once-each (slots (bookOf h ks ls .tree) ++ bookOf h ks ls .chain)
-  its-once = once-perm (Permᴰ·symm (its .valid .pool)) (up-once (h .c) 1)
+  its-once = once-perm (Permᴰ·symm (its h ks ls p .valid .pool)) (up-once (h .c) 1)
 
   pub its-pool : Every (InPool (h .c)) (slots (bookOf h ks ls .tree)) × Every (InPool (h .c)) (bookOf h ks ls .chain)
-  its-pool = every-split (InPool (h .c)) (slots (bookOf h ks ls .tree)) (bookOf h ks ls .chain) (every-perm (InPool (h .c)) (Permᴰ·symm (its .valid .pool)) (up-every (InPool (h .c)) (h .c) 1 (λ x a b. (omega arith, omega arith))))
+  its-pool = every-split (InPool (h .c)) (slots (bookOf h ks ls .tree)) (bookOf h ks ls .chain) (every-perm (InPool (h .c)) (Permᴰ·symm (its h ks ls p .valid .pool)) (up-every (InPool (h .c)) (h .c) 1 (λ x a b. (omega arith, omega arith))))
 
   pub pool-slot : (s : ℕ) → InPool (h .c) s → (h .k ≤ 4) × ((s ≤ 4096) × (Keyed (h .k) (length ks) s × Slot (length ls) s))
   pool-slot s i = let c = p .room .cHigh in let l = p .room .long in let a = i .0 in let b = i .1 in (p .room .kHigh, (omega arith, (keyed-in (shapeOf h) (length ks) (length ls) s (p .room) (λ e. omega arith) (i .1), record { some = i .0; fits = omega arith })))
@@ -82,6 +76,3 @@ put-together h ks ls b ek el v r c f n =
     let l = rep-lies (h .k) (h .c) ks ls el (h .root) (b .tree) r in
     let m = image-of (h .k) (h .c) b ks ls ek el (λ s i. cell-is (h .k) (h .c) (cellOf (h .k) ks ls) b s i (v .pool) (l .2) (c .0) (c .1)) in
     record { valid = v; count = n; root = l .0; free = f; sameKeys = m .0; sameLinks = m .1 }
-
-pub room-kept : (h : Head) (nk nl nk′ nl′ : ℕ) → Room (shapeOf h) nk nl → nk′ ≡ nk → nl′ ≡ nl → Room (shapeOf h) nk′ nl′
-room-kept h nk nl nk′ nl′ m e f = rw (e, f) m

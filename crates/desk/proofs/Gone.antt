@@ -1,36 +1,36 @@
 -- One entry struck from a sound pool: its slot given back, and the pool of the new book.
 use mathlib.Core.Path.{_≡_, refl, sym, ap, subst, _∙_}
-use mathlib.Core.Logic.{inl, inr}
-use mathlib.Core.Bool.{true, false}
-use mathlib.Core.List.{List, [], _∷_, _++_, List·Permᴰ, Permᴰ·symm}
-use Prim.Native.Nat.{ℕ, zero, suc, _+_, _-_, _*_, _≤_, _<_}
+use mathlib.Core.Logic.{inl}
+use mathlib.Core.Bool.{true}
+use mathlib.Core.List.{List, [], _∷_, List·Permᴰ, Permᴰ·symm}
+use Prim.Native.Nat.{ℕ, _-_, _≤_}
 use native.Mathlib.Omega.{arith}
 use lib.ListN.{length}
 use lib.IntN.{ℤ}
 use Rattle.model.specs.Entry.{Entry}
-use Rattle.model.specs.Tree.{Tree, size}
+use Rattle.model.specs.Tree.{size}
 use Rattle.model.specs.Ask.{has}
-use Rattle.model.specs.Book.{Book, Cell, struck, first}
+use Rattle.model.specs.Book.{Book, Cell, struck}
 use Rattle.model.specs.Pool.{cellOf, bookOf}
 use Rattle.model.specs.Rebuild.{listing}
 use Rattle.model.specs.Strike.{strike, freed}
 use Rattle.model.specs.declared.Head.{Head}
 use Rattle.model.proofs.Books.{strike-valid}
 use Rattle.model.proofs.Crowd.{InPool}
-use Rattle.model.proofs.Laid.{Blank, slots-length}
-use Rattle.model.proofs.Lists.{Every, every-perm, Once-each, once-perm, once-split, perm-length}
-use Rattle.model.proofs.Sounds.{Is}
+use Rattle.model.proofs.Laid.{slots-length}
+use Rattle.model.proofs.Lists.{every-perm, Once-each, once-perm, once-split, perm-length}
 use Rattle.model.proofs.Strikes.{slots, strike-slots}
 use Rattle.cells.specs.Slots.{leftAt, rightAt, heightAt, numbersOf, Slot, Keyed}
-use Rattle.cells.specs.Memory.{Rep, In, Same, Frame, Released}
+use Rattle.cells.specs.Memory.{Rep, In, Frame, Released}
 use Rattle.cells.proofs.Reps.{rep-frame, frame-trans, link-cells}
 use Rattle.rank.proofs.Shapes.{every-in, in-perm}
 use Rattle.alter.specs.Strikes.{Strikable, StruckOut}
 use Rattle.alter.specs.declared.strike.Struck.{Struck}
-use Rattle.desk.specs.Changes.{Sound, Became}
-use Rattle.desk.proofs.Changes.{Chain, its, its-rep, its-chain, its-once, its-pool, pool-slot, chain-apart, chain-kept, put-together}
-use Rattle.desk.proofs.Held.{first-cut, ordered-of}
-use Rattle.desk.proofs.There.{has-there}
+use Rattle.weigh.specs.Sounds.{Sound}
+use Rattle.weigh.proofs.Held.{first-cut, its, its-rep, ordered-of}
+use Rattle.weigh.proofs.There.{has-there}
+use Rattle.desk.specs.Changes.{Became}
+use Rattle.desk.proofs.Changes.{Chain, its-chain, its-once, its-pool, pool-slot, chain-apart, chain-kept, put-together}
 
 module _ (h : Head) (ks : List ℤ) (ls : List ℕ) (p : Sound h ks ls) where
   abbrev b : Book

@@ -26,14 +26,14 @@ use Rattle.model.proofs.Gates.{gate-none}
 use Rattle.model.proofs.Items.{entryIn}
 use Rattle.model.proofs.Sounds.{Is}
 use Rattle.cells.specs.Slots.{Room}
-use Rattle.desk.specs.Changes.{Sound, Became}
-use Rattle.desk.specs.Items.{entryAt, workOf}
-use Rattle.desk.proofs.Begun.{entry-is, item-fits}
-use Rattle.desk.proofs.Changes.{its, room-kept}
-use Rattle.desk.proofs.Held.{few-of}
-use Rattle.desk.proofs.Judged.{first-right, first-wrong, works-end, works-on}
-use Rattle.desk.proofs.Lately.{adds, adds-is, entry-long}
-use Rattle.desk.proofs.TakesIn.{back-in}
+use Rattle.weigh.specs.Items.{entryAt, workOf}
+use Rattle.weigh.specs.Sounds.{Sound}
+use Rattle.weigh.proofs.Begun.{entry-is, item-fits}
+use Rattle.weigh.proofs.Held.{few-of, its, room-kept}
+use Rattle.weigh.proofs.Inward.{back-in}
+use Rattle.weigh.proofs.Judged.{first-right, first-wrong, works-end, works-on}
+use Rattle.weigh.proofs.Lately.{adds, adds-is, entry-long}
+use Rattle.desk.specs.Changes.{Became}
 
 -- ---- one item
 

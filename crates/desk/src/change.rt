@@ -1,5 +1,4 @@
-// One entry looked for, added or struck in a pool that is known to be sound, so that a call which changes many judges it once.
-use ask::walk::Walk;
+// One entry added or struck in a pool that is known to be sound, so that a call which changes many judges it once.
 use model::Entry;
 use model::Head;
 use model::Shape;
@@ -12,29 +11,8 @@ ghost use Rattle.model.specs.Ask.{has};
 ghost use Rattle.model.specs.Book.{added, struck};
 ghost use Rattle.model.specs.Pool.{bookOf};
 ghost use Rattle.model.specs.Rebuild.{listing};
-ghost use Rattle.desk.specs.Changes.{Sound, Became};
-
-// Whether the entry is there.
-pub fn is_there(head: Head, keys: &[i64], links: &[usize], entry: Entry) -> bool
-    requires { ⌜ Sound head (now keys) (now links) ⌝ }
-    ensures { λ r. ⌜ r ≡ has (inward (head .k) entry) (listing (bookOf head (now (keys .entry)) (now (links .entry)) .tree)) ⌝ }
-{
-    let w = ask::walk::walk_down(
-        Shape {
-            k: head.k,
-            c: head.c,
-        },
-        head.root,
-        entry,
-        keys,
-        links,
-    );
-    match w {
-        Walk::Found(_, _) => true,
-        Walk::Gone(_) => false,
-        Walk::Astray => false,
-    }
-}
+ghost use Rattle.weigh.specs.Sounds.{Sound};
+ghost use Rattle.desk.specs.Changes.{Became};
 
 // Adds an entry that is not there to a pool that is not full; returns the head.
 pub fn add_one(

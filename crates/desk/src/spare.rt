@@ -1,17 +1,12 @@
 // The lists of slots that a call needs beside what it is lent: short ones for a small pool, since clearing long ones would be most of its work.
 use crate::change::add_one;
 use crate::change::strike_one;
-use crate::listing::Filled;
-use crate::listing::fill;
-use crate::saving::Printed;
-use crate::saving::print;
 use crate::taking::put_all;
 use crate::working::work_all;
-use ask::boxes::collect;
-use model::Bound;
 use model::Entry;
 use model::Head;
-use model::Shape;
+use weigh::pool::FEW;
+use weigh::pool::MOST;
 ghost use mathlib.Core.Path.{_≡_};
 ghost use mathlib.Core.Bool.{true, false};
 ghost use mathlib.Core.Option.{none};
@@ -26,19 +21,9 @@ ghost use Rattle.model.specs.Pool.{bookOf};
 ghost use Rattle.model.specs.Rebuild.{listing};
 ghost use Rattle.model.specs.Text.{parse};
 ghost use Rattle.model.specs.Tray.{works};
-ghost use Rattle.model.specs.Tree.{Tree};
-ghost use Rattle.cells.specs.Slots.{Room};
-ghost use Rattle.ask.specs.Boxes.{slotsIn};
-ghost use Rattle.ask.specs.Standing.{Stands, Standing};
-ghost use Rattle.desk.specs.Changes.{Sound, Became};
-ghost use Rattle.desk.specs.Listing.{FilledWith};
-ghost use Rattle.desk.specs.Saving.{PrintedWith};
-ghost use Rattle.desk.specs.Taking.{Saves};
-
-// The slots of a small pool, and of any.
-const FEW: usize = 256;
-
-const MOST: usize = 4096;
+ghost use Rattle.weigh.specs.Saved.{Saves};
+ghost use Rattle.weigh.specs.Sounds.{Sound};
+ghost use Rattle.desk.specs.Changes.{Became};
 
 // Adds an entry that is not there to a pool that is not full; returns the head.
 pub fn add(
@@ -131,94 +116,4 @@ pub fn work(
     }
     let mut spare = [0usize; MOST];
     work_all(head, keys, links, scratch, &mut spare[..c], items)
-}
-
-// How many entries of the tree a box holds.
-pub fn count(keys: &[i64], links: &[usize], shape: Shape, root: usize, bounds: [Bound; 4]) -> usize
-    requires { ⌜ Room shape (length (now keys)) (length (now links)) ⌝ }
-    requires { ⌜ Standing (shape .k) (now keys) (now links) root 0 (shape .c) ⌝ }
-    ensures { λ r. ⌜ ((u : Tree) → Stands (shape .k) (now (keys .entry)) (now (links .entry)) root 0 u → r ≡ length (slotsIn bounds u)) ⌝ }
-{
-    let c = shape.c;
-    if c <= FEW {
-        let mut slots = [0usize; FEW];
-        return collect(shape, root, 0, bounds, keys, links, &mut slots[..c], 0);
-    }
-    let mut slots = [0usize; MOST];
-    collect(shape, root, 0, bounds, keys, links, &mut slots[..c], 0)
-}
-
-// Writes the entries of the box in listing order to the room, where they fit.
-pub fn list(
-    keys: &[i64],
-    links: &[usize],
-    shape: Shape,
-    root: usize,
-    bounds: [Bound; 4],
-    room: &mut [i64],
-) -> Filled
-    requires { ⌜ Room shape (length (now keys)) (length (now links)) ⌝ }
-    requires { ⌜ Standing (shape .k) (now keys) (now links) root 0 (shape .c) ⌝ }
-    ensures { λ r. ⌜ FilledWith (shape .k) (now (keys .entry)) (now (links .entry)) root bounds (now (room .entry)) (now (room .exit)) r ⌝ }
-{
-    let c = shape.c;
-    if c <= FEW {
-        let mut slots = [0usize; FEW];
-        let mut spare = [0usize; FEW];
-        return fill(
-            keys,
-            links,
-            shape,
-            root,
-            bounds,
-            &mut slots[..c],
-            &mut spare[..c],
-            room,
-        );
-    }
-    let mut slots = [0usize; MOST];
-    let mut spare = [0usize; MOST];
-    fill(
-        keys,
-        links,
-        shape,
-        root,
-        bounds,
-        &mut slots[..c],
-        &mut spare[..c],
-        room,
-    )
-}
-
-// Writes the text of the book to the room, where it fits.
-pub fn save(keys: &[i64], links: &[usize], shape: Shape, root: usize, room: &mut [u8]) -> Printed
-    requires { ⌜ Room shape (length (now keys)) (length (now links)) ⌝ }
-    requires { ⌜ Standing (shape .k) (now keys) (now links) root 0 (shape .c) ⌝ }
-    ensures { λ r. ⌜ PrintedWith (shape .k) (now (keys .entry)) (now (links .entry)) root (now (room .entry)) (now (room .exit)) r ⌝ }
-{
-    let c = shape.c;
-    if c <= FEW {
-        let mut slots = [0usize; FEW];
-        let mut spare = [0usize; FEW];
-        return print(
-            keys,
-            links,
-            shape,
-            root,
-            &mut slots[..c],
-            &mut spare[..c],
-            room,
-        );
-    }
-    let mut slots = [0usize; MOST];
-    let mut spare = [0usize; MOST];
-    print(
-        keys,
-        links,
-        shape,
-        root,
-        &mut slots[..c],
-        &mut spare[..c],
-        room,
-    )
 }

@@ -1,8 +1,8 @@
-// The entries of a text that is known to be a saved book: how many are new, and each added where it is not yet there.
+// The entries of a text that is known to be a saved book, each added where it is not yet there.
 use crate::change::add_one;
-use crate::change::is_there;
 use model::Entry;
 use model::Head;
+use weigh::pool::is_there;
 ghost use mathlib.Core.Path.{_≡_};
 ghost use mathlib.Core.Bool.{false};
 ghost use mathlib.Core.List.{_∷_, []};
@@ -15,37 +15,9 @@ ghost use Rattle.model.specs.Laws.{addedEach};
 ghost use Rattle.model.specs.Pool.{bookOf};
 ghost use Rattle.model.specs.Rebuild.{listing};
 ghost use Rattle.model.specs.Text.{parse};
-ghost use Rattle.desk.specs.Changes.{Sound, Became};
-ghost use Rattle.desk.specs.Taking.{Saves};
-
-// 1 for an entry that is not there, else 0.
-pub fn new_one(head: Head, keys: &[i64], links: &[usize], entry: Entry) -> usize
-    requires { ⌜ Sound head (now keys) (now links) ⌝ }
-    ensures { λ r. ⌜ r ≡ length (newOf (listing (bookOf head (now (keys .entry)) (now (links .entry)) .tree)) (inward (head .k) entry ∷ [])) ⌝ }
-{
-    if is_there(head, keys, links, entry) {
-        return 0;
-    }
-    1
-}
-
-// How many of the text's entries are not there.
-pub fn count_new(head: Head, keys: &[i64], links: &[usize], text: &[u8], lines: usize) -> usize
-    requires { ⌜ Sound head (now keys) (now links) × Saves (now text) (head .k) lines ⌝ }
-    ensures { λ r. ⌜ r ≡ length (newOf (listing (bookOf head (now (keys .entry)) (now (links .entry)) .tree)) (entriesIn (parse (now (text .entry))))) ⌝ }
-{
-    let k = head.k;
-    let mut at = text::first_entry(text);
-    let mut new: usize = 0;
-    let mut i: usize = 0;
-    while i < lines {
-        let line = text::read_entry(text, at, k);
-        new += new_one(head, keys, links, line.entry);
-        at = line.next;
-        i += 1;
-    }
-    new
-}
+ghost use Rattle.weigh.specs.Saved.{Saves};
+ghost use Rattle.weigh.specs.Sounds.{Sound};
+ghost use Rattle.desk.specs.Changes.{Became};
 
 // Sees to it that an entry is there; returns the head.
 pub fn put_in(

@@ -1,9 +1,9 @@
 // The items of a tray worked in turn, where none of them is wrong.
 use crate::change::add_one;
 use crate::change::strike_one;
-use crate::items::adds;
-use crate::items::entry_in;
 use model::Head;
+use weigh::items::adds;
+use weigh::items::entry_in;
 ghost use mathlib.Core.Path.{_≡_};
 ghost use mathlib.Core.Option.{none};
 ghost use Prim.Native.Nat.{_+_, _*_, _≤_};
@@ -11,8 +11,9 @@ ghost use lib.ListN.{length, replicate};
 ghost use Rattle.model.specs.Laws.{firstWrong, worked, workedAll, wrongWith};
 ghost use Rattle.model.specs.Pool.{bookOf};
 ghost use Rattle.model.specs.Tray.{works};
-ghost use Rattle.desk.specs.Changes.{Sound, Became};
-ghost use Rattle.desk.specs.Items.{workOf};
+ghost use Rattle.weigh.specs.Items.{workOf};
+ghost use Rattle.weigh.specs.Sounds.{Sound};
+ghost use Rattle.desk.specs.Changes.{Became};
 
 // Works item i, counted from 0, which is not wrong; returns the head.
 pub fn work_one(

@@ -1,5 +1,5 @@
 -- No line of a print is longer than 160 bytes.
-use mathlib.Core.Path.{_≡_, ap, subst, _∙_}
+use mathlib.Core.Path.{_≡_, subst}
 use mathlib.Core.List.{List, [], _∷_, _++_}
 use Prim.Native.Nat.{ℕ, suc, _+_, _*_, _^_, _≤_, _<_}
 use native.Mathlib.Omega.{arith}
@@ -16,7 +16,7 @@ use Rattle.model.specs.declared.Entry.{Entry as Four}
 use Rattle.cells.specs.Slots.{numbersOf}
 use Rattle.cells.proofs.Slots.{numbers-long}
 use Rattle.rank.specs.Ranking.{InTable}
-use Rattle.desk.proofs.Rooms.{back-in}
+use Rattle.weigh.proofs.Inward.{back-in}
 use Rattle.print.specs.Place.{Puts}
 use Rattle.print.proofs.Decimals.{decimal-short}
 use Rattle.print.proofs.Signs.{signed-short}
@@ -58,7 +58,7 @@ module _ (K t s : ℕ) (f : List ℤ) (four : length f ≡ 4) (small : Small f) 
 
 -- the numbers of slot s, as it was read
 pub read-back : (K : ℕ) (ks : List ℤ) (s : ℕ) (e : Four) → InTable K (length ks) s → e ≡ outward (numbersOf K ks s) → take K (e .f) ≡ numbersOf K ks s
-read-back K ks s e t q = ap (λ (x : Four). take K (x .f)) q ∙ back-in K (numbersOf K ks s) (numbers-long K ks s (t .keyed))
+read-back K ks s e t q = back-in K (numbersOf K ks s) e (numbers-long K ks s (t .keyed)) q
 
 pub entry-put-in : (K : ℕ) (ks : List ℤ) (s t : ℕ) (x : Entry) (room o : List ℕ) (at p : ℕ) → x ≡ numbersOf K ks s → length (entryLine K t s x) ≤ 160 → Puts room at (entryLine K t s x) o p → PutEntry K ks s t room o at p
 entry-put-in K ks s t x room o at p e h w = record { put = subst (λ (y : Entry). Puts room at (entryLine K t s y) o p) e w; short = subst (λ (y : Entry). length (entryLine K t s y) ≤ 160) e h }

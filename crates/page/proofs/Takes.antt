@@ -27,7 +27,7 @@ use Rattle.model.proofs.Passes.{Fit, pass3, keys-length, links-length}
 use Rattle.model.proofs.Takes.{step-take}
 use Rattle.model.proofs.Texts.{Taken, only-saved}
 use Rattle.model.proofs.Trees.{pair}
-use Rattle.desk.specs.Changes.{Sound}
+use Rattle.weigh.specs.Sounds.{Sound}
 use Rattle.print.specs.Place.{Puts}
 use Rattle.page.specs.Texts.{SavedIn}
 

@@ -16,8 +16,8 @@ use Rattle.model.proofs.Backs.{height-size}
 use Rattle.cells.specs.Slots.{tall}
 use Rattle.cells.specs.Memory.{Rep}
 use Rattle.cells.proofs.Reps.{rep-bound, tall-rep}
-use Rattle.desk.specs.Changes.{Sound}
-use Rattle.desk.proofs.Held.{rep-of}
+use Rattle.weigh.specs.Sounds.{Sound}
+use Rattle.weigh.proofs.Held.{its-rep}
 use Rattle.print.specs.Place.{Puts}
 use Rattle.page.specs.Trees.{totals, Printable, PutTree}
 use Rattle.page.proofs.Pieces.{long, join}
@@ -32,7 +32,7 @@ module _ (h : Head) (ks : List ℤ) (ls : List ℕ) (g : Sound h ks ls) where
   fits = fitting-fits h (cellOf (h .k) ks ls) b (g .good)
 
   rep : Rep (h .k) ks ls (h .root) (b .tree)
-  rep = rep-of h ks ls (g .room .long) (g .good)
+  rep = its-rep h ks ls g
 
   pub root-low : 3 * h .root ≤ length ls
   root-low = rep-bound (h .k) ks ls (h .root) (b .tree) rep

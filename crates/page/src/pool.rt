@@ -8,7 +8,7 @@ ghost use Prim.Native.Nat.{_+_, _*_, _≤_};
 ghost use lib.ListN.{length};
 ghost use Rattle.model.specs.Pool.{bookOf};
 ghost use Rattle.model.specs.Show.{bookLines};
-ghost use Rattle.desk.specs.Changes.{Sound};
+ghost use Rattle.weigh.specs.Sounds.{Sound};
 ghost use Rattle.print.specs.Place.{Puts};
 ghost use Rattle.page.specs.Trees.{totals};
 

@@ -10,7 +10,7 @@ ghost use lib.IntN.{pos};
 ghost use Rattle.model.specs.Gate.{reading};
 ghost use Rattle.model.specs.Show.{takenLines, shownText};
 ghost use Rattle.model.specs.Text.{parse};
-ghost use Rattle.desk.specs.Changes.{Sound};
+ghost use Rattle.weigh.specs.Sounds.{Sound};
 ghost use Rattle.print.specs.Place.{Puts};
 ghost use Rattle.page.specs.Texts.{SavedIn};
 

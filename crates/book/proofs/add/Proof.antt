@@ -1,6 +1,6 @@
 use mathlib.Core.Path.{sym, ap, _∙_}
 use lib.ListN.{replicate}
-use Rattle.desk.proofs.Held.{few-of}
+use Rattle.weigh.proofs.Held.{few-of}
 use Rattle.book.proofs.Written.{sound-pool, scratch-long, not-full, add-shut, add-present, add-full, add-done}
 use borrow.Author.Needs.{needs}
 use Rattle.book.proofs.add.Statement.{statement}
@@ -10,7 +10,7 @@ use Rattle.book.proofs.add.Lts as lts
 use Rattle.book.proofs.answer.plain.Reads as plain-reads
 use Rattle.book.proofs.answer.refused.Reads as refused-reads
 use Rattle.desk.proofs.spare.add.Reads as add-reads
-use Rattle.desk.proofs.change.is_there.Reads as is-there-reads
+use Rattle.weigh.proofs.pool.is_there.Reads as is-there-reads
 use Rattle.book.proofs.gate.pool.Reads as pool-reads
 use Rattle.rank.proofs.gather.clear.Reads as clear-reads
 

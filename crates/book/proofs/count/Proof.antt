@@ -1,13 +1,13 @@
 use mathlib.Core.Path.{sym, _∙_}
 use denote.Ref as refs
-use Rattle.book.proofs.Pools.{pool-ready}
+use Rattle.book.proofs.Pools.{pool-held}
 use Rattle.book.proofs.Counts.{count-shut, count-open}
 use borrow.Author.Needs.{needs}
 use Rattle.book.proofs.count.Statement.{statement}
 use Rattle.book.proofs.count.Tie as tie
 use Rattle.book.proofs.count.Reads as reads
 use Rattle.book.proofs.count.Lts as lts
-use Rattle.desk.proofs.spare.count.Reads as count-reads
+use Rattle.sheet.proofs.spare.count.Reads as count-reads
 use Rattle.book.proofs.answer.counted.Reads as counted-reads
 use Rattle.book.proofs.answer.refused.Reads as refused-reads
 use Rattle.book.proofs.gate.pool.Reads as pool-reads
@@ -28,7 +28,7 @@ enum-told : tie.Need-enum-told
 enum-told c = search needs
 
 count-requires : tie.Need-count-requires
-count-requires c κs = let s = c .before .before .before .before in let g = c .before .before .pool in pool-ready (s .args .head) (refs.now (s .args .keys)) (refs.now (s .args .links)) (s .args .head .c) (g .result) (g .ensures) (c .enum-told .given .1)
+count-requires c κs = let s = c .before .before .before .before in let g = c .before .before .pool in pool-held (s .args .head) (refs.now (s .args .keys)) (refs.now (s .args .links)) (s .args .head .c) (g .result) (g .ensures) (c .enum-told .given .1)
 
 counted-requires : tie.Need-counted-requires
 counted-requires c κs = search needs

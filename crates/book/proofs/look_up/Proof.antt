@@ -10,7 +10,7 @@ use Rattle.book.proofs.look_up.Tie as tie
 use Rattle.book.proofs.look_up.Reads as reads
 use Rattle.book.proofs.look_up.Lts as lts
 use Rattle.ask.proofs.walk.walk_down.Reads as walk-down-reads
-use Rattle.desk.proofs.cut.cut_to.Reads as cut-to-reads
+use Rattle.sheet.proofs.cut.cut_to.Reads as cut-to-reads
 use Rattle.book.proofs.answer.met.Reads as met-reads
 use Rattle.book.proofs.answer.refused.Reads as refused-reads
 use Rattle.book.proofs.answer.unmet.Reads as unmet-reads

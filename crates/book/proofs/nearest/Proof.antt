@@ -3,7 +3,7 @@ use native.Mathlib.Omega.{arith}
 use denote.Ref as refs
 use lib.ListN.{length}
 use Rattle.cells.specs.Slots.{numbersOf}
-use Rattle.desk.proofs.Steps.{all-steps}
+use Rattle.weigh.proofs.Steps.{all-steps}
 use Rattle.book.proofs.Pools.{pool-room, pool-standing}
 use Rattle.book.proofs.Nearby.{near-shut, near-step, near-none, near-some, near-reads}
 use borrow.Author.Needs.{needs}
@@ -16,7 +16,7 @@ use Rattle.book.proofs.answer.close.Reads as close-reads
 use Rattle.book.proofs.answer.plain.Reads as plain-reads
 use Rattle.book.proofs.answer.refused.Reads as refused-reads
 use Rattle.book.proofs.gate.pool.Reads as pool-reads
-use Rattle.desk.proofs.step.zero_step.Reads as zero-step-reads
+use Rattle.weigh.proofs.step.zero_step.Reads as zero-step-reads
 use Rattle.cells.proofs.slot.entry_at.Reads as entry-at-reads
 
 pool-requires : tie.Need-pool-requires

@@ -1,4 +1,4 @@
-use Rattle.book.proofs.Pools.{pool-ready}
+use Rattle.book.proofs.Pools.{pool-held}
 use Rattle.book.proofs.Saves.{save-shut, save-done, save-short}
 use borrow.Author.Needs.{needs}
 use Rattle.book.proofs.save.Statement.{statement}
@@ -8,7 +8,7 @@ use Rattle.book.proofs.save.Lts as lts
 use Rattle.book.proofs.answer.refused.Reads as refused-reads
 use Rattle.book.proofs.answer.wrote.Reads as wrote-reads
 use Rattle.book.proofs.gate.pool.Reads as pool-reads
-use Rattle.desk.proofs.spare.save.Reads as save-reads
+use Rattle.sheet.proofs.spare.save.Reads as save-reads
 
 pool-requires : tie.Need-pool-requires
 pool-requires c κs = search needs
@@ -26,7 +26,7 @@ enum-told : tie.Need-enum-told
 enum-told c = search needs
 
 save-requires : tie.Need-save-requires
-save-requires c κs = let s = c .before .before .before .before .before .before in let g = c .before .before .before .pool in pool-ready (s .args .head) (s .args .keys .now) (s .args .links .now) (s .args .head .c) (g .result) (g .ensures) (c .before .enum-told .given .1)
+save-requires c κs = let s = c .before .before .before .before .before .before in let g = c .before .before .before .pool in pool-held (s .args .head) (s .args .keys .now) (s .args .links .now) (s .args .head .c) (g .result) (g .ensures) (c .before .enum-told .given .1)
 
 wrote-requires : tie.Need-wrote-requires
 wrote-requires c κs = search needs
@@ -35,7 +35,7 @@ same-length : tie.Need-same-length
 same-length c = search needs
 
 returns-2 : tie.Need-returns-2
-returns-2 c = let s = c .before .before .before .before .before .before .before .before .before .before .before in let g = c .before .before .before .before .before .before .before .before .pool in let f = c .before .before .before .before .save in save-done (s .args .head) (s .args .keys .now) (s .args .links .now) (g .result) (g .ensures) (s .args .room .now) (c .before .before .before .before .before .before .enum-told .given .1) (f .last .1 .1 .1 .1 .0) (f .result) (f .ensures) (c .before .if1 .taken) (c .wrote .result) (c .wrote .ensures)
+returns-2 c = let s = c .before .before .before .before .before .before .before .before .before .before .before in let g = c .before .before .before .before .before .before .before .before .pool in let f = c .before .before .before .before .save in save-done (s .args .head) (s .args .keys .now) (s .args .links .now) (g .result) (g .ensures) (s .args .room .now) (c .before .before .before .before .before .before .enum-told .given .1) (f .last .1 .1 .1 .0) (f .result) (f .ensures) (c .before .if1 .taken) (c .wrote .result) (c .wrote .ensures)
 
 refused-requires-2 : tie.Need-refused-requires-2
 refused-requires-2 c κs = search needs
@@ -44,7 +44,7 @@ same-length-2 : tie.Need-same-length-2
 same-length-2 c = search needs
 
 returns-3 : tie.Need-returns-3
-returns-3 c = let s = c .before .before .before .before .before .before .before .before .before .before .before in let g = c .before .before .before .before .before .before .before .before .pool in let f = c .before .before .before .before .save in save-short (s .args .head) (s .args .keys .now) (s .args .links .now) (g .result) (g .ensures) (s .args .room .now) (c .before .before .before .before .before .before .enum-told .given .1) (f .last .1 .1 .1 .1 .0) (f .result) (f .ensures) (c .before .if1 .left) (c .refused2 .result) (c .refused2 .ensures)
+returns-3 c = let s = c .before .before .before .before .before .before .before .before .before .before .before in let g = c .before .before .before .before .before .before .before .before .pool in let f = c .before .before .before .before .save in save-short (s .args .head) (s .args .keys .now) (s .args .links .now) (g .result) (g .ensures) (s .args .room .now) (c .before .before .before .before .before .before .enum-told .given .1) (f .last .1 .1 .1 .0) (f .result) (f .ensures) (c .before .if1 .left) (c .refused2 .result) (c .refused2 .ensures)
 
 pub save-spec : {M : Type 1} → statement M
 save-spec =

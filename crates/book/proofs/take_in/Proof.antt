@@ -1,6 +1,6 @@
 use mathlib.Core.Path.{ap, _∙_}
 use lib.ListN.{replicate}
-use Rattle.desk.proofs.Held.{few-of}
+use Rattle.weigh.proofs.Held.{few-of}
 use Rattle.book.proofs.Written.{sound-pool, scratch-long}
 use Rattle.book.proofs.TakesIn.{take-shut, take-broken, take-mismatch, take-saves, take-full, take-fits, take-done}
 use borrow.Author.Needs.{needs}
@@ -12,7 +12,7 @@ use Rattle.book.proofs.answer.broken.Reads as broken-reads
 use Rattle.book.proofs.answer.plain.Reads as plain-reads
 use Rattle.book.proofs.answer.refused.Reads as refused-reads
 use Rattle.book.proofs.gate.pool.Reads as pool-reads
-use Rattle.desk.proofs.taking.count_new.Reads as count-new-reads
+use Rattle.weigh.proofs.lines.count_new.Reads as count-new-reads
 use Rattle.desk.proofs.spare.take_in.Reads as take-in-reads
 use Rattle.rank.proofs.gather.clear.Reads as clear-reads
 use Rattle.text.proofs.take_apart.Reads as take-apart-reads

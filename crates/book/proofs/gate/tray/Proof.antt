@@ -8,7 +8,7 @@ use Rattle.book.proofs.gate.tray.Tie as tie
 use Rattle.book.proofs.gate.tray.Reads as reads
 use Rattle.book.proofs.gate.tray.Lts as lts
 use Rattle.book.proofs.gate.sizes.Reads as sizes-reads
-use Rattle.desk.proofs.items.trayed.Reads as trayed-reads
+use Rattle.weigh.proofs.items.trayed.Reads as trayed-reads
 use Rattle.sound.proofs.is_sound.Reads as is-sound-reads
 
 sizes-requires : tie.Need-sizes-requires

@@ -4,7 +4,7 @@ use lib.ListN.{length}
 use lib.Seq.{length-take-le}
 use Rattle.model.specs.Answer.{inward}
 use Rattle.desk.proofs.Added.{claim-ready, insert-ready, added-is}
-use Rattle.desk.proofs.Changes.{room-kept}
+use Rattle.weigh.proofs.Held.{room-kept}
 use borrow.Author.Needs.{needs}
 use Rattle.desk.proofs.change.add_one.Statement.{statement}
 use Rattle.desk.proofs.change.add_one.Tie as tie

@@ -2,7 +2,8 @@ use mathlib.Core.Path.{sym, ap, _∙_}
 use Prim.Native.Nat.{_-_}
 use native.Mathlib.Omega.{arith}
 use lib.ListN.{length}
-use Rattle.desk.proofs.TakesIn.{Putting, text-cut, few-lines, reads-first, line-ready, puts-first, sound-on, room-on, spared, puts-on, puts-end}
+use Rattle.weigh.proofs.Saved.{text-cut, few-lines, reads-first, line-ready}
+use Rattle.desk.proofs.TakesIn.{Putting, puts-first, sound-on, room-on, spared, puts-on, puts-end}
 use Rattle.desk.proofs.taking.put_all.Statement.{statement}
 use Rattle.desk.proofs.taking.put_all.Tie as tie
 use Rattle.desk.proofs.taking.put_all.Reads as reads

@@ -1,13 +1,12 @@
-use mathlib.Core.Path.{sym, _∙_}
 use Rattle.model.specs.Answer.{inward}
-use Rattle.desk.proofs.TakesIn.{stays, comes}
+use Rattle.desk.proofs.TakesIn.{stays, not-yet, comes}
 use borrow.Author.Needs.{needs}
 use Rattle.desk.proofs.taking.put_in.Statement.{statement}
 use Rattle.desk.proofs.taking.put_in.Tie as tie
 use Rattle.desk.proofs.taking.put_in.Reads as reads
 use Rattle.desk.proofs.taking.put_in.Lts as lts
 use Rattle.desk.proofs.change.add_one.Reads as add-one-reads
-use Rattle.desk.proofs.change.is_there.Reads as is-there-reads
+use Rattle.weigh.proofs.pool.is_there.Reads as is-there-reads
 
 is-there-requires : tie.Need-is-there-requires
 is-there-requires c κs = search needs
@@ -22,7 +21,7 @@ returns : tie.Need-returns
 returns c = let s = c .before .before .before .before .before .before .before in let t = c .before .is-there in (stays (s .args .head) (s .args .keys .now) (s .args .links .now) (inward (s .args .head .k) (s .args .entry)) (t .result) (t .ensures) (s .pre .0) (c .if1 .taken), s .pre .1 .1 .0)
 
 add-one-requires : tie.Need-add-one-requires
-add-one-requires c κs = let s = c .before .before .before .before .before .before .before .before .before .before .before in let t = c .before .before .before .before .before .is-there in ((s .pre .0, s .pre .1 .0 (sym (t .ensures) ∙ c .before .before .before .before .if1 .left)), (sym (t .ensures) ∙ c .before .before .before .before .if1 .left, s .pre .1 .1))
+add-one-requires c κs = let s = c .before .before .before .before .before .before .before .before .before .before .before in let t = c .before .before .before .before .before .is-there in let q = not-yet (s .args .head) (s .args .keys .now) (s .args .links .now) (inward (s .args .head .k) (s .args .entry)) (t .result) (t .ensures) (c .before .before .before .before .if1 .left) in ((s .pre .0, s .pre .1 .0 q), (q, s .pre .1 .1))
 
 same-length-3 : tie.Need-same-length-3
 same-length-3 c = search needs

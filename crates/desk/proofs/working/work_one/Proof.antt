@@ -6,8 +6,8 @@ use Rattle.desk.proofs.working.work_one.Reads as reads
 use Rattle.desk.proofs.working.work_one.Lts as lts
 use Rattle.desk.proofs.change.add_one.Reads as add-one-reads
 use Rattle.desk.proofs.change.strike_one.Reads as strike-one-reads
-use Rattle.desk.proofs.items.adds.Reads as adds-reads
-use Rattle.desk.proofs.items.entry_in.Reads as entry-in-reads
+use Rattle.weigh.proofs.items.adds.Reads as adds-reads
+use Rattle.weigh.proofs.items.entry_in.Reads as entry-in-reads
 
 entry-in-requires : tie.Need-entry-in-requires
 entry-in-requires c κs = search needs
