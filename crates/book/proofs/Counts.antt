@@ -20,10 +20,10 @@ use Rattle.model.proofs.Gates.{checked-shut, checked-open}
 use Rattle.ask.specs.Standing.{Stands}
 use Rattle.ask.specs.Boxes.{slotsIn}
 use Rattle.ask.proofs.Listed.{box-count}
-use Rattle.book.specs.Gates.{told, pooled}
-use Rattle.book.specs.declared.gate.Gate.{Gate}
-use Rattle.book.specs.declared.gate.Gate.the-variants.{Open, Shut}
-use Rattle.book.proofs.Pools.{no-scratch-rows, pool-refuses, all-open, pool-stands, pool-distinct}
+use Rattle.reply.specs.Gates.{told, pooled}
+use Rattle.reply.specs.declared.gate.Gate.{Gate}
+use Rattle.reply.specs.declared.gate.Gate.the-variants.{Open, Shut}
+use Rattle.reply.proofs.Pools.{no-scratch-rows, pool-refuses, all-open, pool-stands, pool-distinct}
 
 module _ (h : Head) (ks : List ℤ) (ls : List ℕ) (g : Gate) (is : g ≡ told (gate (pooled h ks ls (h .c)))) where
   -- rows 1 to 4 of a call that is lent no scratch

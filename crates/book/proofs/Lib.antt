@@ -1,10 +1,8 @@
--- Laws of the gate and of a fresh pool.
+-- What each call leaves behind the gate.
 pub mod Counts
-pub mod Gates
 pub mod Lists
 pub mod LookUps
 pub mod Nearby
-pub mod Pools
 pub mod Saves
 pub mod Starts
 pub mod TakesIn

@@ -28,13 +28,13 @@ use Rattle.ask.proofs.Listed.{box-listing, box-count}
 use Rattle.rank.specs.Ranking.{itemsAt}
 use Rattle.rank.proofs.Merging.{rank-items, ranked-slots}
 use Rattle.rank.proofs.Shapes.{items-held}
-use Rattle.book.specs.Gates.{told, pooled}
+use Rattle.reply.specs.Gates.{told, pooled}
 use Rattle.sheet.specs.Listing.{numbersIn, rankedIn, FilledWith}
-use Rattle.book.specs.declared.gate.Gate.{Gate}
-use Rattle.book.specs.declared.gate.Gate.the-variants.{Open, Shut}
+use Rattle.reply.specs.declared.gate.Gate.{Gate}
+use Rattle.reply.specs.declared.gate.Gate.the-variants.{Open, Shut}
 use Rattle.sheet.specs.declared.listing.Filled.{Filled}
 use Rattle.book.proofs.Counts.{reads-shut, reads-open}
-use Rattle.book.proofs.Pools.{behind-shut, behind-open, pool-stands, pool-rep, pool-distinct}
+use Rattle.reply.proofs.Pools.{behind-shut, behind-open, pool-stands, pool-rep, pool-distinct}
 
 module _ (K : ℕ) (ks : List ℤ) where
   -- items that are their slots' are so in the box too

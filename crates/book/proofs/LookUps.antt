@@ -18,8 +18,8 @@ use Rattle.model.proofs.Gates.{checked-shut, checked-open}
 use Rattle.ask.specs.Walks.{named}
 use Rattle.ask.specs.declared.walk.Walk.{Walk as End}
 use Rattle.ask.specs.declared.walk.Walk.the-variants.{Found, Gone, Astray}
-use Rattle.book.specs.Gates.{fitting}
-use Rattle.book.proofs.Gates.{no-scratch}
+use Rattle.reply.specs.Gates.{fitting}
+use Rattle.reply.proofs.Gates.{no-scratch}
 
 module _ (h : Head) (ks : List ℤ) (ls : List ℕ) (e : Four) where
   abbrev end : Walk

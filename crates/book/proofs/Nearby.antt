@@ -28,11 +28,11 @@ use Rattle.ask.specs.declared.near.Best.{Best}
 use Rattle.ask.proofs.Nears.{searched-whole, nearest-none, nearest-some, nearest-slot, nearest-away}
 use Rattle.ask.proofs.Walks.{keyed-in}
 use Rattle.sound.specs.Parts.{shapeOf}
-use Rattle.book.specs.Gates.{told, pooled}
-use Rattle.book.specs.declared.gate.Gate.{Gate}
-use Rattle.book.specs.declared.gate.Gate.the-variants.{Open, Shut}
+use Rattle.reply.specs.Gates.{told, pooled}
+use Rattle.reply.specs.declared.gate.Gate.{Gate}
+use Rattle.reply.specs.declared.gate.Gate.the-variants.{Open, Shut}
 use Rattle.book.proofs.Counts.{reads-shut, reads-open}
-use Rattle.book.proofs.Pools.{behind-shut, behind-open, pool-ordered, pool-stands, pool-room}
+use Rattle.reply.proofs.Pools.{behind-shut, behind-open, pool-ordered, pool-stands, pool-room}
 
 module _ (h : Head) (ks : List ℤ) (ls : List ℕ) (g : Gate) (is : g ≡ told (gate (pooled h ks ls (h .c)))) (q : Four) (steps : List ℕ) where
   abbrev u : Tree

@@ -20,13 +20,13 @@ use Rattle.model.specs.declared.Refusal.{Refusal}
 use Rattle.model.specs.declared.Refusal.the-variants.{Room}
 use Rattle.model.specs.declared.Answer.{Answer}
 use Rattle.model.proofs.Gates.{gate-on, gate-off, checked-shut, checked-open}
-use Rattle.book.specs.Gates.{told, pooled}
+use Rattle.reply.specs.Gates.{told, pooled}
 use Rattle.sheet.specs.Saving.{Measured, PrintedWith}
-use Rattle.book.specs.declared.gate.Gate.{Gate}
-use Rattle.book.specs.declared.gate.Gate.the-variants.{Open, Shut}
+use Rattle.reply.specs.declared.gate.Gate.{Gate}
+use Rattle.reply.specs.declared.gate.Gate.the-variants.{Open, Shut}
 use Rattle.sheet.specs.declared.saving.Printed.{Printed}
 use Rattle.book.proofs.Counts.{reads-shut, reads-open}
-use Rattle.book.proofs.Pools.{behind-shut, behind-open, pool-stands}
+use Rattle.reply.proofs.Pools.{behind-shut, behind-open, pool-stands}
 
 module _ (h : Head) (ks : List ℤ) (ls : List ℕ) (g : Gate) (is : g ≡ told (gate (pooled h ks ls (h .c)))) (room : List ℕ) where
   abbrev u : Tree

@@ -31,10 +31,10 @@ use Rattle.text.specs.declared.Saved.the-variants.{Broken, Book as Whole}
 use Rattle.desk.specs.Changes.{Became}
 use Rattle.weigh.specs.Saved.{Saves}
 use Rattle.weigh.proofs.Held.{few-of}
-use Rattle.book.specs.Gates.{told, pooled}
-use Rattle.book.specs.declared.gate.Gate.{Gate}
-use Rattle.book.specs.declared.gate.Gate.the-variants.{Open, Shut}
-use Rattle.book.proofs.Pools.{behind-shut, pool-refuses}
+use Rattle.reply.specs.Gates.{told, pooled}
+use Rattle.reply.specs.declared.gate.Gate.{Gate}
+use Rattle.reply.specs.declared.gate.Gate.the-variants.{Open, Shut}
+use Rattle.reply.proofs.Pools.{behind-shut, pool-refuses}
 use Rattle.book.proofs.Written.{Leaves, leaves-shut, leaves-done, rows-past, sound-pool}
 
 -- a refusal that a table gives is one of its rows'

@@ -1,6 +1,5 @@
 -- A tray as it is called: refused with nothing changed, the place with an item's refusal alone; else every item is worked, and scratch is 0.
 use mathlib.Core.Path.{_≡_, refl, sym, ap, _∙_}
-use mathlib.Core.Bool.{Bool, true, false, not}
 use mathlib.Core.Option.{Option, none, some}
 use mathlib.Core.List.{List, [], _∷_}
 use Prim.Native.Nat.{ℕ}
@@ -8,58 +7,28 @@ use native.Mathlib.Omega.{arith}
 use lib.ListN.{length, replicate}
 use lib.IntN.{ℤ}
 use borrow.Author.Tests.{not-false}
-use Rattle.model.specs.Answer.{Row, gate, plain, refused, refusedAt}
-use Rattle.model.specs.Gate.{rows3}
+use Rattle.model.specs.Answer.{gate, plain, refused, refusedAt}
 use Rattle.model.specs.Laws.{firstWrong, workedAll}
 use Rattle.model.specs.Pool.{bookOf, sound}
-use Rattle.model.specs.Tray.{tray, trayed, works}
+use Rattle.model.specs.Tray.{tray, works}
 use Rattle.model.specs.declared.Answer.{Answer}
 use Rattle.model.specs.declared.Head.{Head}
 use Rattle.model.specs.declared.Outcome.the-variants.{Done}
 use Rattle.model.specs.declared.Refusal.{Refusal}
-use Rattle.model.specs.declared.Refusal.the-variants.{Tray, Unsound}
-use Rattle.model.proofs.Gates.{gate-on, gate-off, gate-none}
+use Rattle.model.proofs.Gates.{gate-none}
 use Rattle.model.proofs.Trays.{tray-books}
 use Rattle.weigh.specs.Sounds.{Sound}
 use Rattle.desk.specs.Changes.{Became}
 use Rattle.weigh.specs.Judging.{firstOf}
 use Rattle.weigh.specs.declared.judging.First.{First}
 use Rattle.weigh.specs.declared.judging.First.the-variants.{Nothing, Item}
-use Rattle.book.specs.Gates.{told, fitting, handed}
-use Rattle.book.specs.declared.gate.Gate.{Gate}
-use Rattle.book.specs.declared.gate.Gate.the-variants.{Open, Shut}
-use Rattle.book.proofs.Gates.{told-open, told-shut, room, scratch-fits}
-use Rattle.book.proofs.Pools.{behind-shut, behind-open, rows-open}
+use Rattle.reply.specs.Gates.{told, handed}
+use Rattle.reply.specs.declared.gate.Gate.{Gate}
+use Rattle.reply.specs.declared.gate.Gate.the-variants.{Open, Shut}
+use Rattle.reply.proofs.Gates.{told-open, told-shut, room, scratch-fits}
+use Rattle.reply.proofs.Pools.{rows-open}
+use Rattle.reply.proofs.Handing.{front, back}
 use Rattle.book.proofs.Written.{Leaves, leaves-kept, leaves-done}
-
--- ---- the gate of a tray, a test at a time
-
-module _ (h : Head) (ks : List ℤ) (ls : List ℕ) (ns : ℕ) (xs : List ℤ) where
-  abbrev front : List Row
-  front = rows3 (h .k) (h .c) (fitting (h .k) (h .c) (length ks) (length ls) ns)
-
-  abbrev last : List Row
-  last = (not (sound h ks ls), Unsound) ∷ []
-
-  abbrev back : List Row
-  back = (not (trayed (h .k) xs), Tray) ∷ last
-
-  pub handed-sizes : (r : Refusal) → gate front ≡ some r → Shut r ≡ told (gate (handed h ks ls ns xs))
-  handed-sizes r e = sym (ap told (behind-shut front back r e))
-
-  module _ (e : gate front ≡ none) (t : Bool) (ts : t ≡ trayed (h .k) xs) where
-    pub handed-not : t ≡ false → Shut Tray ≡ told (gate (handed h ks ls ns xs))
-    handed-not f = sym (ap told (behind-open front back e ∙ gate-on (not (trayed (h .k) xs)) Tray last (ap not (sym ts ∙ f))))
-
-    module _ (f : t ≡ true) (b : Bool) (bs : b ≡ sound h ks ls) where
-      past-tray : gate (handed h ks ls ns xs) ≡ gate last
-      past-tray = behind-open front back e ∙ gate-off (not (trayed (h .k) xs)) Tray last (ap not (sym ts ∙ f))
-
-      pub handed-sound : b ≡ true → Open ≡ told (gate (handed h ks ls ns xs))
-      handed-sound g = sym (ap told (past-tray ∙ gate-off (not (sound h ks ls)) Unsound [] (ap not (sym bs ∙ g))))
-
-      pub handed-unsound : b ≡ false → Shut Unsound ≡ told (gate (handed h ks ls ns xs))
-      handed-unsound g = sym (ap told (past-tray ∙ gate-on (not (sound h ks ls)) Unsound [] (ap not (sym bs ∙ g))))
 
 first-some : (o : Option (ℕ × Refusal)) (p : ℕ) (r : Refusal) → Item p r ≡ firstOf o → o ≡ some (p, r)
 first-some none p r e = let z : _≡_ {A = ℕ} 0 1 = cc in absurd (omega arith)

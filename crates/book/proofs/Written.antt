@@ -26,11 +26,11 @@ use Rattle.model.proofs.Backs.{is-head}
 use Rattle.model.proofs.Gates.{gate-on, gate-off, checked-shut, checked-open}
 use Rattle.weigh.specs.Sounds.{Sound}
 use Rattle.desk.specs.Changes.{Became}
-use Rattle.book.specs.Gates.{told, pooled}
-use Rattle.book.specs.declared.gate.Gate.{Gate}
-use Rattle.book.specs.declared.gate.Gate.the-variants.{Open, Shut}
-use Rattle.book.proofs.Gates.{scratch-fits}
-use Rattle.book.proofs.Pools.{behind-shut, behind-open, all-open, pool-refuses, pool-held, front-open}
+use Rattle.reply.specs.Gates.{told, pooled}
+use Rattle.reply.specs.declared.gate.Gate.{Gate}
+use Rattle.reply.specs.declared.gate.Gate.the-variants.{Open, Shut}
+use Rattle.reply.proofs.Gates.{scratch-fits}
+use Rattle.reply.proofs.Pools.{behind-shut, behind-open, all-open, pool-refuses, pool-held, front-open}
 
 -- an answer and what is left in the three lent lists
 abbrev pub Leaves : After → Answer → List ℤ → List ℕ → List ℕ → Type 0

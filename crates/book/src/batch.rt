@@ -1,10 +1,10 @@
 // A finished tray in one go: its adds and strikes in order, whole or not at all.
-use crate::answer;
-use crate::gate;
-use crate::gate::Gate;
 use model::Answer;
 use model::Head;
 use model::Outcome;
+use reply::answer;
+use reply::gate;
+use reply::gate::Gate;
 use weigh::judging::First;
 ghost use mathlib.Core.Path.{_≡_};
 ghost use Rattle.model.specs.Tray as trays;

@@ -1,5 +1,4 @@
 // The public calls. Each takes every input: it checks in the order of the table, then works, and answers with the whole answer.
-use crate::gate::Gate;
 use ask::near::Best;
 use ask::walk::Walk;
 use model::Answer;
@@ -9,12 +8,13 @@ use model::Head;
 use model::Outcome;
 use model::Refusal;
 use model::Shape;
+use reply::answer;
+use reply::gate;
+use reply::gate::Gate;
 use text::Saved;
 ghost use mathlib.Core.Path.{_≡_};
 ghost use Rattle.model.specs.Calls as calls;
 
-pub mod answer;
-pub mod gate;
 mod batch; // batch.rt: many adds and strikes in one call
 
 pub use batch::tray;
@@ -38,14 +38,7 @@ pub fn start(k: usize, c: usize, keys: &mut [i64], links: &mut [usize]) -> Answe
     }
     desk::fresh::clear_numbers(keys);
     desk::fresh::chain_up(links, c);
-    let head = Head {
-        k,
-        c,
-        root: 0,
-        free: 1,
-        n: 0,
-    };
-    answer::plain(Outcome::Done, head)
+    answer::begun(k, c)
 }
 
 // The slot of an entry, by the walk from the root, which trusts nothing.

@@ -2,9 +2,9 @@
 use crate::face::Limits;
 use crate::face::Steps;
 use crate::face::Told;
-use book::gate::Gate;
 use model::Entry;
 use model::Head;
+use reply::gate::Gate;
 ghost use mathlib.Core.Path.{_≡_};
 ghost use Rattle.model.specs.Calls as calls;
 ghost use Rattle.model.specs.Tray as trays;
@@ -20,7 +20,7 @@ pub mod told;
 pub extern "C" fn book_judge(head: Head, keys: &[i64], links: &[usize]) -> usize
     ensures { λ r. ⌜ r ≡ judged head (now (keys .entry)) (now (links .entry)) ⌝ }
 {
-    let g = book::gate::pool(head, keys, links, head.c);
+    let g = reply::gate::pool(head, keys, links, head.c);
     match g {
         Gate::Shut(why) => told::number_of(why),
         Gate::Open => 0,

@@ -7,11 +7,11 @@ use Rattle.book.proofs.add.Statement.{statement}
 use Rattle.book.proofs.add.Tie as tie
 use Rattle.book.proofs.add.Reads as reads
 use Rattle.book.proofs.add.Lts as lts
-use Rattle.book.proofs.answer.plain.Reads as plain-reads
-use Rattle.book.proofs.answer.refused.Reads as refused-reads
+use Rattle.reply.proofs.answer.plain.Reads as plain-reads
+use Rattle.reply.proofs.answer.refused.Reads as refused-reads
 use Rattle.desk.proofs.spare.add.Reads as add-reads
 use Rattle.weigh.proofs.pool.is_there.Reads as is-there-reads
-use Rattle.book.proofs.gate.pool.Reads as pool-reads
+use Rattle.reply.proofs.gate.pool.Reads as pool-reads
 use Rattle.rank.proofs.gather.clear.Reads as clear-reads
 
 pool-requires : tie.Need-pool-requires

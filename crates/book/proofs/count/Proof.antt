@@ -1,6 +1,6 @@
 use mathlib.Core.Path.{sym, _∙_}
 use denote.Ref as refs
-use Rattle.book.proofs.Pools.{pool-held}
+use Rattle.reply.proofs.Pools.{pool-held}
 use Rattle.book.proofs.Counts.{count-shut, count-open}
 use borrow.Author.Needs.{needs}
 use Rattle.book.proofs.count.Statement.{statement}
@@ -8,9 +8,9 @@ use Rattle.book.proofs.count.Tie as tie
 use Rattle.book.proofs.count.Reads as reads
 use Rattle.book.proofs.count.Lts as lts
 use Rattle.sheet.proofs.spare.count.Reads as count-reads
-use Rattle.book.proofs.answer.counted.Reads as counted-reads
-use Rattle.book.proofs.answer.refused.Reads as refused-reads
-use Rattle.book.proofs.gate.pool.Reads as pool-reads
+use Rattle.reply.proofs.answer.counted.Reads as counted-reads
+use Rattle.reply.proofs.answer.refused.Reads as refused-reads
+use Rattle.reply.proofs.gate.pool.Reads as pool-reads
 
 pool-requires : tie.Need-pool-requires
 pool-requires c κs = search needs

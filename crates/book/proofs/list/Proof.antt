@@ -1,13 +1,13 @@
-use Rattle.book.proofs.Pools.{pool-held}
+use Rattle.reply.proofs.Pools.{pool-held}
 use Rattle.book.proofs.Lists.{list-shut, list-done, list-short}
 use borrow.Author.Needs.{needs}
 use Rattle.book.proofs.list.Statement.{statement}
 use Rattle.book.proofs.list.Tie as tie
 use Rattle.book.proofs.list.Reads as reads
 use Rattle.book.proofs.list.Lts as lts
-use Rattle.book.proofs.answer.counted.Reads as counted-reads
-use Rattle.book.proofs.answer.refused.Reads as refused-reads
-use Rattle.book.proofs.gate.pool.Reads as pool-reads
+use Rattle.reply.proofs.answer.counted.Reads as counted-reads
+use Rattle.reply.proofs.answer.refused.Reads as refused-reads
+use Rattle.reply.proofs.gate.pool.Reads as pool-reads
 use Rattle.sheet.proofs.spare.list.Reads as list-reads
 
 pool-requires : tie.Need-pool-requires

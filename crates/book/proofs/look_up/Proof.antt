@@ -2,7 +2,7 @@ use mathlib.Core.Path.{sym, _∙_}
 use denote.Ref as refs
 use lib.ListN.{length}
 use Rattle.model.specs.Answer.{inward}
-use Rattle.book.proofs.Gates.{shut-gate, open-gate, room}
+use Rattle.reply.proofs.Gates.{shut-gate, open-gate, room}
 use Rattle.book.proofs.LookUps.{look-shut, look-met, look-unmet, look-astray}
 use borrow.Author.Needs.{needs}
 use Rattle.book.proofs.look_up.Statement.{statement}
@@ -11,10 +11,10 @@ use Rattle.book.proofs.look_up.Reads as reads
 use Rattle.book.proofs.look_up.Lts as lts
 use Rattle.ask.proofs.walk.walk_down.Reads as walk-down-reads
 use Rattle.sheet.proofs.cut.cut_to.Reads as cut-to-reads
-use Rattle.book.proofs.answer.met.Reads as met-reads
-use Rattle.book.proofs.answer.refused.Reads as refused-reads
-use Rattle.book.proofs.answer.unmet.Reads as unmet-reads
-use Rattle.book.proofs.gate.sizes.Reads as sizes-reads
+use Rattle.reply.proofs.answer.met.Reads as met-reads
+use Rattle.reply.proofs.answer.refused.Reads as refused-reads
+use Rattle.reply.proofs.answer.unmet.Reads as unmet-reads
+use Rattle.reply.proofs.gate.sizes.Reads as sizes-reads
 
 sizes-requires : tie.Need-sizes-requires
 sizes-requires c κs = search needs

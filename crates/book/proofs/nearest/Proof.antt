@@ -4,7 +4,7 @@ use denote.Ref as refs
 use lib.ListN.{length}
 use Rattle.cells.specs.Slots.{numbersOf}
 use Rattle.weigh.proofs.Steps.{all-steps}
-use Rattle.book.proofs.Pools.{pool-room, pool-standing}
+use Rattle.reply.proofs.Pools.{pool-room, pool-standing}
 use Rattle.book.proofs.Nearby.{near-shut, near-step, near-none, near-some, near-reads}
 use borrow.Author.Needs.{needs}
 use Rattle.book.proofs.nearest.Statement.{statement}
@@ -12,10 +12,10 @@ use Rattle.book.proofs.nearest.Tie as tie
 use Rattle.book.proofs.nearest.Reads as reads
 use Rattle.book.proofs.nearest.Lts as lts
 use Rattle.ask.proofs.near.nearest_in.Reads as nearest-in-reads
-use Rattle.book.proofs.answer.close.Reads as close-reads
-use Rattle.book.proofs.answer.plain.Reads as plain-reads
-use Rattle.book.proofs.answer.refused.Reads as refused-reads
-use Rattle.book.proofs.gate.pool.Reads as pool-reads
+use Rattle.reply.proofs.answer.close.Reads as close-reads
+use Rattle.reply.proofs.answer.plain.Reads as plain-reads
+use Rattle.reply.proofs.answer.refused.Reads as refused-reads
+use Rattle.reply.proofs.gate.pool.Reads as pool-reads
 use Rattle.weigh.proofs.step.zero_step.Reads as zero-step-reads
 use Rattle.cells.proofs.slot.entry_at.Reads as entry-at-reads
 

@@ -1,13 +1,13 @@
-use Rattle.book.proofs.Pools.{pool-held}
+use Rattle.reply.proofs.Pools.{pool-held}
 use Rattle.book.proofs.Saves.{save-shut, save-done, save-short}
 use borrow.Author.Needs.{needs}
 use Rattle.book.proofs.save.Statement.{statement}
 use Rattle.book.proofs.save.Tie as tie
 use Rattle.book.proofs.save.Reads as reads
 use Rattle.book.proofs.save.Lts as lts
-use Rattle.book.proofs.answer.refused.Reads as refused-reads
-use Rattle.book.proofs.answer.wrote.Reads as wrote-reads
-use Rattle.book.proofs.gate.pool.Reads as pool-reads
+use Rattle.reply.proofs.answer.refused.Reads as refused-reads
+use Rattle.reply.proofs.answer.wrote.Reads as wrote-reads
+use Rattle.reply.proofs.gate.pool.Reads as pool-reads
 use Rattle.sheet.proofs.spare.save.Reads as save-reads
 
 pool-requires : tie.Need-pool-requires

@@ -1,16 +1,16 @@
 use lib.ListN.{length}
-use Rattle.book.proofs.Gates.{shut-gate, open-gate, room}
+use Rattle.reply.proofs.Gates.{shut-gate, open-gate, room}
 use Rattle.book.proofs.Starts.{start-shut, start-open}
 use borrow.Author.Needs.{needs}
 use Rattle.book.proofs.start.Statement.{statement}
 use Rattle.book.proofs.start.Tie as tie
 use Rattle.book.proofs.start.Reads as reads
 use Rattle.book.proofs.start.Lts as lts
-use Rattle.book.proofs.answer.plain.Reads as plain-reads
-use Rattle.book.proofs.answer.refused.Reads as refused-reads
+use Rattle.reply.proofs.answer.begun.Reads as begun-reads
+use Rattle.reply.proofs.answer.refused.Reads as refused-reads
 use Rattle.desk.proofs.fresh.chain_up.Reads as chain-up-reads
 use Rattle.desk.proofs.fresh.clear_numbers.Reads as clear-numbers-reads
-use Rattle.book.proofs.gate.sizes.Reads as sizes-reads
+use Rattle.reply.proofs.gate.sizes.Reads as sizes-reads
 
 sizes-requires : tie.Need-sizes-requires
 sizes-requires c κs = search needs
@@ -33,8 +33,8 @@ clear-numbers-requires c κs = search needs
 chain-up-requires : tie.Need-chain-up-requires
 chain-up-requires c κs = let s = c .before .before .before .before .before .before .before .before in let g = c .before .before .before .before .before .before .sizes in let m = room (s .args .k) (s .args .c) (length (s .args .keys .now)) (length (s .args .links .now)) (s .args .c) (g .result) (g .ensures) (c .before .before .before .before .enum-told .given .1) in (m .cLow, (m .cHigh, m .long))
 
-plain-requires : tie.Need-plain-requires
-plain-requires c κs = search needs
+begun-requires : tie.Need-begun-requires
+begun-requires c κs = search needs
 
 same-length : tie.Need-same-length
 same-length c = search needs
@@ -43,7 +43,7 @@ same-length-2 : tie.Need-same-length-2
 same-length-2 c = search needs
 
 returns-2 : tie.Need-returns-2
-returns-2 c = let s = c .before .before .before .before .before .before .before .before .before .before .before .before in let g = c .before .before .before .before .before .before .before .before .before .before .sizes in let o = c .before .before .before .before .before .before .before .before .enum-told .given .1 in start-open (s .args .k) (s .args .c) (s .args .keys .now) (s .args .links .now) (c .plain .result) (c .before .before .before .before .before .before .clear-numbers .last .0) (c .before .before .before .chain-up .last .0) (open-gate (s .args .k) (s .args .c) (length (s .args .keys .now)) (length (s .args .links .now)) (s .args .c) (g .result) (g .ensures) o) (room (s .args .k) (s .args .c) (length (s .args .keys .now)) (length (s .args .links .now)) (s .args .c) (g .result) (g .ensures) o) (c .plain .ensures) (c .before .before .before .before .before .before .clear-numbers .ensures) (c .before .before .before .chain-up .ensures)
+returns-2 c = let s = c .before .before .before .before .before .before .before .before .before .before .before .before in let g = c .before .before .before .before .before .before .before .before .before .before .sizes in let o = c .before .before .before .before .before .before .before .before .enum-told .given .1 in start-open (s .args .k) (s .args .c) (s .args .keys .now) (s .args .links .now) (c .begun .result) (c .before .before .before .before .before .before .clear-numbers .last .0) (c .before .before .before .chain-up .last .0) (open-gate (s .args .k) (s .args .c) (length (s .args .keys .now)) (length (s .args .links .now)) (s .args .c) (g .result) (g .ensures) o) (room (s .args .k) (s .args .c) (length (s .args .keys .now)) (length (s .args .links .now)) (s .args .c) (g .result) (g .ensures) o) (c .begun .ensures (room (s .args .k) (s .args .c) (length (s .args .keys .now)) (length (s .args .links .now)) (s .args .c) (g .result) (g .ensures) o .cLow)) (c .before .before .before .before .before .before .clear-numbers .ensures) (c .before .before .before .chain-up .ensures)
 
 pub start-spec : {M : Type 1} → statement M
 start-spec =
@@ -56,7 +56,7 @@ start-spec =
     enum-told
     clear-numbers-requires
     chain-up-requires
-    plain-requires
+    begun-requires
     same-length
     same-length-2
     returns-2)

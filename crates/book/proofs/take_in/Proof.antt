@@ -8,10 +8,10 @@ use Rattle.book.proofs.take_in.Statement.{statement}
 use Rattle.book.proofs.take_in.Tie as tie
 use Rattle.book.proofs.take_in.Reads as reads
 use Rattle.book.proofs.take_in.Lts as lts
-use Rattle.book.proofs.answer.broken.Reads as broken-reads
-use Rattle.book.proofs.answer.plain.Reads as plain-reads
-use Rattle.book.proofs.answer.refused.Reads as refused-reads
-use Rattle.book.proofs.gate.pool.Reads as pool-reads
+use Rattle.reply.proofs.answer.broken.Reads as broken-reads
+use Rattle.reply.proofs.answer.plain.Reads as plain-reads
+use Rattle.reply.proofs.answer.refused.Reads as refused-reads
+use Rattle.reply.proofs.gate.pool.Reads as pool-reads
 use Rattle.weigh.proofs.lines.count_new.Reads as count-new-reads
 use Rattle.desk.proofs.spare.take_in.Reads as take-in-reads
 use Rattle.rank.proofs.gather.clear.Reads as clear-reads

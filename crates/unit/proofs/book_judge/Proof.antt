@@ -7,7 +7,7 @@ use Rattle.unit.proofs.book_judge.Statement.{statement}
 use Rattle.unit.proofs.book_judge.Tie as tie
 use Rattle.unit.proofs.book_judge.Reads as reads
 use Rattle.unit.proofs.book_judge.Lts as lts
-use Rattle.book.proofs.gate.pool.Reads as pool-reads
+use Rattle.reply.proofs.gate.pool.Reads as pool-reads
 use Rattle.unit.proofs.told.number_of.Reads as number-of-reads
 
 pool-requires : tie.Need-pool-requires

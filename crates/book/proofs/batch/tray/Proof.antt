@@ -6,10 +6,10 @@ use Rattle.book.proofs.batch.tray.Statement.{statement}
 use Rattle.book.proofs.batch.tray.Tie as tie
 use Rattle.book.proofs.batch.tray.Reads as reads
 use Rattle.book.proofs.batch.tray.Lts as lts
-use Rattle.book.proofs.answer.plain.Reads as plain-reads
-use Rattle.book.proofs.answer.refused.Reads as refused-reads
-use Rattle.book.proofs.answer.refused_at.Reads as refused-at-reads
-use Rattle.book.proofs.gate.tray.Reads as tray-reads
+use Rattle.reply.proofs.answer.plain.Reads as plain-reads
+use Rattle.reply.proofs.answer.refused.Reads as refused-reads
+use Rattle.reply.proofs.answer.refused_at.Reads as refused-at-reads
+use Rattle.reply.proofs.gate.tray.Reads as tray-reads
 use Rattle.weigh.proofs.judging.first_wrong.Reads as first-wrong-reads
 use Rattle.desk.proofs.spare.work.Reads as work-reads
 use Rattle.rank.proofs.gather.clear.Reads as clear-reads

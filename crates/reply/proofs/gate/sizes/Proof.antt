@@ -1,10 +1,10 @@
 use native.Mathlib.Omega.{arith}
-use Rattle.book.proofs.Gates.{no-field, many-fields, no-slot, many-slots, product-low, keys-wrong, links-wrong, scratch-wrong, all-right}
+use Rattle.reply.proofs.Gates.{no-field, many-fields, no-slot, many-slots, product-low, keys-wrong, links-wrong, scratch-wrong, all-right}
 use borrow.Author.Needs.{needs}
-use Rattle.book.proofs.gate.sizes.Statement.{statement}
-use Rattle.book.proofs.gate.sizes.Tie as tie
-use Rattle.book.proofs.gate.sizes.Reads as reads
-use Rattle.book.proofs.gate.sizes.Lts as lts
+use Rattle.reply.proofs.gate.sizes.Statement.{statement}
+use Rattle.reply.proofs.gate.sizes.Tie as tie
+use Rattle.reply.proofs.gate.sizes.Reads as reads
+use Rattle.reply.proofs.gate.sizes.Lts as lts
 
 returns : tie.Need-returns
 returns c = no-field (c .before .args .k) (c .before .args .c) (c .before .args .keys) (c .before .args .links) (c .before .args .scratch) (c .if1 .taken)

@@ -23,10 +23,10 @@ use Rattle.cells.specs.Slots.{Room}
 use Rattle.cells.specs.Memory.{Rep}
 use Rattle.ask.specs.Standing.{Stands, Standing}
 use Rattle.sound.specs.Parts.{shapeOf}
-use Rattle.book.specs.Gates.{told, fitting, pooled}
-use Rattle.book.specs.declared.gate.Gate.{Gate}
-use Rattle.book.specs.declared.gate.Gate.the-variants.{Open, Shut}
-use Rattle.book.proofs.Gates.{told-open, told-shut, no-scratch, room}
+use Rattle.reply.specs.Gates.{told, fitting, pooled}
+use Rattle.reply.specs.declared.gate.Gate.{Gate}
+use Rattle.reply.specs.declared.gate.Gate.the-variants.{Open, Shut}
+use Rattle.reply.proofs.Gates.{told-open, told-shut, no-scratch, room}
 use Rattle.weigh.specs.Sounds.{Sound}
 use Rattle.weigh.proofs.Held.{its, its-rep, its-stands, its-standing, ordered-of}
 

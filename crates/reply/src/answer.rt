@@ -5,8 +5,11 @@ use model::Head;
 use model::Outcome;
 use model::Refusal;
 ghost use mathlib.Core.Path.{_≡_};
+ghost use Prim.Native.Nat.{_≤_};
 ghost use Rattle.model.specs.Answer as answers;
+ghost use Rattle.model.specs.Book as books;
 ghost use Rattle.model.specs.Entry as entries;
+ghost use Rattle.model.specs.declared.Outcome.the-variants.{Done};
 ghost use Rattle.model.specs.declared.Refusal.the-variants.{Text};
 
 pub fn plain(outcome: Outcome, head: Head) -> Answer
@@ -24,6 +27,20 @@ pub fn plain(outcome: Outcome, head: Head) -> Answer
         line: 0,
         place: 0,
     }
+}
+
+// A fresh pool has no entry, and slot 1 is its first free one.
+pub fn begun(k: usize, c: usize) -> Answer
+    ensures { λ r. ⌜ (1 ≤ c → r ≡ answers.plain Done (books.headOf k c (books.fresh c))) ⌝ }
+{
+    let head = Head {
+        k,
+        c,
+        root: 0,
+        free: 1,
+        n: 0,
+    };
+    plain(Outcome::Done, head)
 }
 
 // A refusal tells its number alone.

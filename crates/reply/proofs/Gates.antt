@@ -3,7 +3,7 @@ use mathlib.Core.Path.{_≡_, refl, sym, ap, _∙_}
 use mathlib.Core.Option.{Option, none, some}
 use mathlib.Core.Bool.{Bool, true, false, not, _&&_}
 use mathlib.Core.List.{List, [], _∷_}
-use Prim.Native.Nat.{ℕ, _*_, _≤_, _<_}
+use Prim.Native.Nat.{ℕ, zero, suc, _*_, _≤_, _<_}
 use native.Mathlib.Omega.{arith}
 use native.Mathlib.Nat.{mul-le-mul}
 use lib.Dec.{leb, eqb}
@@ -11,6 +11,7 @@ use lib.ListN.{length}
 use lib.IntN.{ℤ}
 use borrow.Author.Tests.{le-leb, lt-leb, leb-true, eq-eqb, ne-eqb, eqb-true, not-false}
 use Rattle.model.specs.Answer.{Row, gate, lineIn, plain, refused, outward}
+use Rattle.model.specs.Book.{upFrom, fresh, headOf}
 use Rattle.model.specs.declared.Head.{Head}
 use Rattle.model.specs.declared.Outcome.the-variants.{Refused}
 use Rattle.model.specs.Gate.{rows3, sized}
@@ -21,9 +22,9 @@ use Rattle.model.specs.declared.Refusal as refusals
 use Rattle.model.proofs.Trees.{both, pair}
 use Rattle.model.proofs.Gates.{gate-on, gate-off, gate-none}
 use Rattle.cells.specs.Slots.{Room}
-use Rattle.book.specs.Gates.{told, fitting}
-use Rattle.book.specs.declared.gate.Gate.{Gate}
-use Rattle.book.specs.declared.gate.Gate.the-variants.{Open, Shut}
+use Rattle.reply.specs.Gates.{told, fitting}
+use Rattle.reply.specs.declared.gate.Gate.{Gate}
+use Rattle.reply.specs.declared.gate.Gate.the-variants.{Open, Shut}
 
 and-left : (a b : Bool) → a ≡ false → (a && b) ≡ false
 and-left a b e = rw e refl
@@ -137,3 +138,8 @@ no-line Tray = refl
 
 pub refuses : (h : Head) (r : Refusal) → plain (Refused r) h ≡ refused h 0 r
 refuses h r = ap (λ l. record { outcome = Refused r; head = h; entry = outward []; slot = 0; reads = 0; distance = 0; count = 0; bytes = 0; line = l; place = 0 }) (sym (no-line r))
+
+pub fresh-head : (K C : ℕ) → 1 ≤ C → _≡_ {A = Head} (record { k = K; c = C; root = 0; free = 1; n = 0 }) (headOf K C (fresh C))
+unfolding fresh headOf upFrom
+fresh-head K zero h = absurd (omega arith)
+fresh-head K (suc C) h = refl

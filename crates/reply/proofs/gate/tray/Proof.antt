@@ -1,13 +1,13 @@
 use lib.ListN.{length}
 use borrow.Author.Tests.{not-true, not-false}
 use borrow.Author.Needs.{needs}
-use Rattle.book.proofs.Gates.{room, shut-gate, open-gate}
-use Rattle.book.proofs.Trays.{handed-sizes, handed-not, handed-sound, handed-unsound}
-use Rattle.book.proofs.gate.tray.Statement.{statement}
-use Rattle.book.proofs.gate.tray.Tie as tie
-use Rattle.book.proofs.gate.tray.Reads as reads
-use Rattle.book.proofs.gate.tray.Lts as lts
-use Rattle.book.proofs.gate.sizes.Reads as sizes-reads
+use Rattle.reply.proofs.Gates.{room, shut-gate, open-gate}
+use Rattle.reply.proofs.Handing.{handed-sizes, handed-not, handed-sound, handed-unsound}
+use Rattle.reply.proofs.gate.tray.Statement.{statement}
+use Rattle.reply.proofs.gate.tray.Tie as tie
+use Rattle.reply.proofs.gate.tray.Reads as reads
+use Rattle.reply.proofs.gate.tray.Lts as lts
+use Rattle.reply.proofs.gate.sizes.Reads as sizes-reads
 use Rattle.weigh.proofs.items.trayed.Reads as trayed-reads
 use Rattle.sound.proofs.is_sound.Reads as is-sound-reads
 

@@ -4,7 +4,7 @@ use model::Refusal;
 ghost use mathlib.Core.Path.{_≡_};
 ghost use Rattle.model.specs.Answer.{gate};
 ghost use Rattle.model.specs.Gate.{rows3};
-ghost use Rattle.book.specs.Gates.{told, fitting, pooled, handed};
+ghost use Rattle.reply.specs.Gates.{told, fitting, pooled, handed};
 
 // Whether a call is let in.
 pub enum Gate {

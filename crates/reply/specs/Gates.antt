@@ -13,8 +13,8 @@ use Rattle.model.specs.Tray.{trayed}
 use Rattle.model.specs.declared.Head.{Head}
 use Rattle.model.specs.declared.Refusal.{Refusal}
 use Rattle.model.specs.declared.Refusal.the-variants.{Unsound, Tray}
-use Rattle.book.specs.declared.gate.Gate.{Gate}
-use Rattle.book.specs.declared.gate.Gate.the-variants.{Open, Shut}
+use Rattle.reply.specs.declared.gate.Gate.{Gate}
+use Rattle.reply.specs.declared.gate.Gate.the-variants.{Open, Shut}
 
 abbrev pub told : Option Refusal → Gate
 told none = Open

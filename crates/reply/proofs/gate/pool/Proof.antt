@@ -1,13 +1,13 @@
 use denote.Ref as refs
 use lib.ListN.{length}
-use Rattle.book.proofs.Gates.{room, shut-gate, open-gate}
-use Rattle.book.proofs.Pools.{pool-shut, pool-sound, pool-unsound}
+use Rattle.reply.proofs.Gates.{room, shut-gate, open-gate}
+use Rattle.reply.proofs.Pools.{pool-shut, pool-sound, pool-unsound}
 use borrow.Author.Needs.{needs}
-use Rattle.book.proofs.gate.pool.Statement.{statement}
-use Rattle.book.proofs.gate.pool.Tie as tie
-use Rattle.book.proofs.gate.pool.Reads as reads
-use Rattle.book.proofs.gate.pool.Lts as lts
-use Rattle.book.proofs.gate.sizes.Reads as sizes-reads
+use Rattle.reply.proofs.gate.pool.Statement.{statement}
+use Rattle.reply.proofs.gate.pool.Tie as tie
+use Rattle.reply.proofs.gate.pool.Reads as reads
+use Rattle.reply.proofs.gate.pool.Lts as lts
+use Rattle.reply.proofs.gate.sizes.Reads as sizes-reads
 use Rattle.sound.proofs.is_sound.Reads as is-sound-reads
 
 sizes-requires : tie.Need-sizes-requires

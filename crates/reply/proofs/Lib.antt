@@ -1,0 +1,4 @@
+-- Laws of the gate.
+pub mod Gates
+pub mod Pools
+pub mod Handing

@@ -1,0 +1,2 @@
+-- What the gate cites.
+pub mod Gates
