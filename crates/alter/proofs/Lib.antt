@@ -2,6 +2,7 @@
 pub mod Heights
 pub mod Heirs
 pub mod Inserting
+pub mod Littles
 pub mod Mending
 pub mod Replaced
 pub mod Sided

@@ -23,6 +23,7 @@ use Rattle.rank.specs.Ranking.{itemsAt}
 use Rattle.rank.specs.Rebuilding.{Fitting, Gathered, Chosen, Rebuilt}
 use Rattle.rank.proofs.Shapes.{items-held, Parts, parts}
 use Rattle.alter.specs.Alters.{Mendable, Mended}
+use Rattle.alter.specs.Listings.{Lying, Listed}
 use Rattle.seek.specs.Sides.{itemIn}
 use Rattle.alter.proofs.Heights.{few, low-tree, rep-pool}
 
@@ -131,6 +132,26 @@ module _ (S : Shape) (ks : List ℤ) (ls : List ℕ) (s l r : ℕ) (room : Room 
         here : (t : ℕ) → cutField (S .k) t ≡ c → Rep (S .k) ks ls₁ s (mend t (itemIn (S .k) ks s) (m .low) (m .high))
         here t h = rw (mend-kept t (itemIn (S .k) ks s) (m .low) (m .high) (same-even true ev)) linked
 
+    pub mended-rebuilt : (ls₂ xs : List ℕ) (c x : ℕ) → xs ≡ slots (m .low) ++ (s ∷ slots (m .high)) → false ≡ even (tall ls l) (tall ls r) → Rebuilt (S .k) ks c ls₁ ls₂ xs x → Mended (S .k) ks ls ls₂ c s l r x
+    mended-rebuilt ls₂ xs c x all ev b = mended-of ls₂ c x here (frame-trans (S .k) ks ks ks ls ls₁ ls₂ (s ∷ []) xs (p .others (S .k) ks) (b .frame) whole only-top (λ j i. rw all at i))
+      where
+        same : itemsAt (S .k) ks xs ≡ items (m .low) ++ (itemIn (S .k) ks s ∷ items (m .high))
+        same = ap (itemsAt (S .k) ks) (all ∙ sym top-slots) ∙ items-held (S .k) ks ls₁ s top linked
+
+        here : (t : ℕ) → cutField (S .k) t ≡ c → Rep (S .k) ks ls₂ x (mend t (itemIn (S .k) ks s) (m .low) (m .high))
+        here t h = rw (mend-rebuilt t (itemIn (S .k) ks s) (m .low) (m .high) (same-even false ev)) (rw same at (b .rep t h))
+
+    pub lying : Lying ls₁ s
+    lying = record { K = S .k; ks = ks; tree = top; rep = linked }
+
+    -- three slots were read off the links
+    module _ (x y z : ℕ) (f : Listed ls₁ s (y ≡ 0) (x ∷ y ∷ z ∷ [])) (some : 0 < y) where
+      pub three-all : x ∷ y ∷ z ∷ [] ≡ slots (m .low) ++ (s ∷ slots (m .high))
+      three-all = ⊎-elim (λ e. absurd (omega arith)) (λ e. sym e ∙ top-slots) (f .at (S .k) ks top linked)
+
+      pub three-chosen : Chosen (S .c) (x ∷ y ∷ z ∷ [])
+      three-chosen = rw three-all chosen
+
     pub fitting : (n : ℕ) → S .c ≤ n → Fitting ls₁ s n
     fitting n h = record { K = S .k; ks = ks; tree = top; rep = linked; enough = let a = ap length top-slots in let b = not-many in omega arith }
 
@@ -158,15 +179,6 @@ module _ (S : Shape) (ks : List ℤ) (ls : List ℕ) (s l r : ℕ) (room : Room 
 
       pub chosen-front : Chosen (S .c) (take n sc₁)
       chosen-front = rw front chosen
-
-      pub mended-rebuilt : (ls₂ : List ℕ) (c x : ℕ) → false ≡ even (tall ls l) (tall ls r) → Rebuilt (S .k) ks c ls₁ ls₂ (take n sc₁) x → Mended (S .k) ks ls ls₂ c s l r x
-      mended-rebuilt ls₂ c x ev b = mended-of ls₂ c x here (frame-trans (S .k) ks ks ks ls ls₁ ls₂ (s ∷ []) (take n sc₁) (p .others (S .k) ks) (b .frame) whole only-top (λ j i. rw front at i))
-        where
-          same : itemsAt (S .k) ks (take n sc₁) ≡ items (m .low) ++ (itemIn (S .k) ks s ∷ items (m .high))
-          same = ap (itemsAt (S .k) ks) (front ∙ sym top-slots) ∙ items-held (S .k) ks ls₁ s top linked
-
-          here : (t : ℕ) → cutField (S .k) t ≡ c → Rep (S .k) ks ls₂ x (mend t (itemIn (S .k) ks s) (m .low) (m .high))
-          here t h = rw (mend-rebuilt t (itemIn (S .k) ks s) (m .low) (m .high) (same-even false ev)) (rw same at (b .rep t h))
 
       -- what the rebuild left in front is cleared; behind it all is 0 as before
       pub scratch-clear : (a z : List ℕ) → sc ≡ replicate (S .c) 0 → length a ≡ length (take n sc₁) → z ≡ replicate (length (take n (a ++ drop n sc₁))) 0 → z ++ drop n (a ++ drop n sc₁) ≡ replicate (S .c) 0

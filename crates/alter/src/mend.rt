@@ -48,6 +48,11 @@ pub fn mend(
     if even {
         return s;
     }
+    // Three slots are ranked where they are: most rebuilds are of three, and nothing need be copied.
+    let few = crate::little::three_at(links, s);
+    if 0 < few.middle {
+        return rank::few::rebuild_three(keys, links, shape, cut, few.low, few.middle, few.high);
+    }
     let n = rank::gather::gather(links, s, scratch, 0);
     let root = rank::rebuild::rebuild(keys, links, shape, cut, &mut scratch[..n], &mut spare[..n]);
     rank::gather::clear(&mut scratch[..n]);

@@ -1,7 +1,9 @@
 -- Laws of ranking and rebuilding.
 pub mod Sorting
 pub mod Merging
+pub mod Threes
 pub mod Cutting
 pub mod Gathering
 pub mod Shapes
 pub mod Rebuilding
+pub mod Leaves

@@ -26,7 +26,7 @@ pub fn refresh(links: &mut [usize], s: usize, l: usize, r: usize)
     put_links(links, s, l, r, h + 1);
 }
 
-// Ranks the slots, takes the middle one for the root and rebuilds both sides one cut deeper; returns the root.
+// Ranks the slots, takes the middle one for the root and rebuilds both sides one cut deeper; returns the root. A few are linked directly.
 pub fn rebuild(
     keys: &[i64],
     links: &mut [usize],
@@ -40,8 +40,8 @@ pub fn rebuild(
     ensures { λ r. ⌜ Rebuilt (shape .k) (now (keys .entry)) cut (now (links .entry)) (now (links .exit)) (now (slots .entry)) r ⌝ }
 {
     let n = slots.len();
-    if n == 0 {
-        0
+    if n < 4 {
+        crate::few::rebuild_few(keys, links, shape, cut, slots)
     } else {
         crate::merge::rank(keys, shape, cut, slots, spare);
         let m = n / 2;

@@ -1,3 +1,4 @@
+use borrow.Author.Needs.{needs}
 use mathlib.Core.Path.{_≡_, _∙_}
 use Prim.Native.Nat.{_+_, _/_}
 use native.Mathlib.Omega.{arith}
@@ -12,6 +13,7 @@ use borrow.Fn.PlainCycle.{Measures, is, falls, and}
 use Rattle.rank.proofs.rebuild.rebuild.Reads as rebuild
 use Rattle.rank.proofs.rebuild.rebuild.Kinds as rebuild-kinds
 use Rattle.rank.proofs.rebuild.+rebuild.Lts-rebuild as rebuild-lts
+use Rattle.rank.proofs.few.rebuild_few.Reads as rebuild-few-reads
 use Rattle.rank.proofs.merge.rank.Reads as rank-reads
 use Rattle.cells.proofs.order.next_cut.Reads as next-cut-reads
 use Rattle.rank.proofs.rebuild.refresh.Reads as refresh-reads
@@ -28,7 +30,13 @@ abbrev rebuild-below : ℕ → In 4 rebuild-kinds.ps
 rebuild-below t = and 4 rebuild-kinds.ps (falls 4 rebuild-kinds.ps _<_ μ-rebuild t) rebuild.Pre
 
 abbrev given-rebuild : ℕ → rebuild-lts.Claims
-given-rebuild t = (rank-reads.Asked, rank-reads.Learnt, next-cut-reads.Asked, next-cut-reads.Learnt, rebuild-below t, rebuild.Post, refresh-reads.Asked, refresh-reads.Learnt)
+given-rebuild t = (rebuild-few-reads.Asked, rebuild-few-reads.Learnt, rank-reads.Asked, rank-reads.Learnt, next-cut-reads.Asked, next-cut-reads.Learnt, rebuild-below t, rebuild.Post, refresh-reads.Asked, refresh-reads.Learnt)
+
+rebuild-rebuild-few-requires : (t : ℕ) → rebuild-lts.Need-rebuild-few-requires (given-rebuild t) (rebuild-at t) rebuild.Post
+rebuild-rebuild-few-requires t c κs =
+    let S = c .before .before .before .before .before .before in
+    let few = c .before .before .if1 .taken in
+    (S .pre .1 .0, (S .pre .1 .1 .0, omega arith))
 
 rebuild-rank-requires : (t : ℕ) → rebuild-lts.Need-rank-requires (given-rebuild t) (rebuild-at t) rebuild.Post
 rebuild-rank-requires t c κs =
@@ -41,7 +49,7 @@ rebuild-mul-s t c = omega arith
 
 rebuild-slice-read-s : (t : ℕ) → rebuild-lts.Need-slice-read-s (given-rebuild t) (rebuild-at t) rebuild.Post
 rebuild-slice-read-s t c =
-    let ne = c .before .before .before .before .before .before .before .before .if1 .left in
+    let many = c .before .before .before .before .before .before .before .before .if1 .left in
     let R = c .before .before .before .before .before .rank in
     let kl = R .kept .1 .1 .1 .0 in
     rw kl (omega arith)
@@ -84,7 +92,7 @@ rebuild-rebuild-requires t c κs =
     let S = c .before .before .before .before .before .before .before .before .before .before .before .before .before .before .before .before in
     let l₀ = S .args .slots .now in
     let m = length l₀ / 2 in
-    let ne = c .before .before .before .before .before .before .before .before .before .before .before .before .if1 .left in
+    let many = c .before .before .before .before .before .before .before .before .before .before .before .before .if1 .left in
     let R = c .before .before .before .before .before .before .before .before .before .rank in
     let l = R .last .1 .1 .1 .0 in
     let p = R .last .1 .1 .1 .1 .0 in
@@ -93,7 +101,7 @@ rebuild-rebuild-requires t c κs =
     let N = c .before .before .before .next-cut in
     let x = merging.front-fits l m (rw kl (omega arith)) in
     let y = merging.front-fits p m (rw (kp ∙ S .pre .1 .1 .1) (omega arith)) in
-    (rw (← (S .pre .0)) (laws.lower-falls (S .args .shape) (S .args .keys .now) (S .args .links .now) (S .args .cut) l₀ l (S .pre .1 .0 .0) (S .pre .1 .0 .1) (S .pre .1 .1 .0) ne (R .ensures) kl), ((S .pre .1 .0 .0, N .ensures .low), (laws.ranked-parts (S .args .shape) (S .args .keys .now) (S .args .links .now) (S .args .cut) l₀ l (S .pre .1 .0 .0) (S .pre .1 .0 .1) (S .pre .1 .1 .0) ne (R .ensures) kl .left, omega arith)))
+    (rw (← (S .pre .0)) (laws.lower-falls (S .args .shape) (S .args .keys .now) (S .args .links .now) (S .args .cut) l₀ l (S .pre .1 .0 .0) (S .pre .1 .0 .1) (S .pre .1 .1 .0) (λ e. omega arith) (R .ensures) kl), ((S .pre .1 .0 .0, N .ensures .low), (laws.ranked-parts (S .args .shape) (S .args .keys .now) (S .args .links .now) (S .args .cut) l₀ l (S .pre .1 .0 .0) (S .pre .1 .0 .1) (S .pre .1 .1 .0) (λ e. omega arith) (R .ensures) kl .left, omega arith)))
 
 rebuild-add-rebuild : (t : ℕ) → rebuild-lts.Need-add-rebuild (given-rebuild t) (rebuild-at t) rebuild.Post
 rebuild-add-rebuild t c = omega arith
@@ -106,7 +114,7 @@ rebuild-sub-rebuild t c =
     let S = c .before .before .before .before .before .before .before .before .before .before .before .before .before .before .before .before .before .before .before .before .before .before .before .before in
     let A = c .before .before .before .before .before .before .before .rebuild in
     let f = length-front (c .before .before .before .before .before .before .before .before .before .before .before .before .before .before .before .before .before .rank .last .1 .1 .1 .0) (A .last .1 .1 .1 .1 .0) (length (S .args .slots .now) / 2) (A .kept .1 .1 .1 .1 .0) in
-    let ne = c .before .before .before .before .before .before .before .before .before .before .before .before .before .before .before .before .before .before .before .before .if1 .left in
+    let many = c .before .before .before .before .before .before .before .before .before .before .before .before .before .before .before .before .before .before .before .before .if1 .left in
     omega arith
 
 rebuild-part-rebuild-start : (t : ℕ) → rebuild-lts.Need-part-rebuild-start (given-rebuild t) (rebuild-at t) rebuild.Post
@@ -114,7 +122,7 @@ rebuild-part-rebuild-start t c =
     let S = c .before .before .before .before .before .before .before .before .before .before .before .before .before .before .before .before .before .before .before .before .before .before .before .before in
     let A = c .before .before .before .before .before .before .before .rebuild in
     let f = length-front (c .before .before .before .before .before .before .before .before .before .before .before .before .before .before .before .before .before .rank .last .1 .1 .1 .0) (A .last .1 .1 .1 .1 .0) (length (S .args .slots .now) / 2) (A .kept .1 .1 .1 .1 .0) in
-    let ne = c .before .before .before .before .before .before .before .before .before .before .before .before .before .before .before .before .before .before .before .before .if1 .left in
+    let many = c .before .before .before .before .before .before .before .before .before .before .before .before .before .before .before .before .before .before .before .before .if1 .left in
     omega arith
 
 rebuild-part-rebuild-end : (t : ℕ) → rebuild-lts.Need-part-rebuild-end (given-rebuild t) (rebuild-at t) rebuild.Post
@@ -133,7 +141,7 @@ rebuild-sub-rebuild-2 t c =
     let A = c .before .before .before .before .before .before .before .before .rebuild in
     let f = length-front (R .last .1 .1 .1 .1 .0) (A .last .1 .1 .1 .1 .1 .0) (length (S .args .slots .now) / 2) (A .kept .1 .1 .1 .1 .1 .0) in
     let q = R .kept .1 .1 .1 .1 .0 ∙ S .pre .1 .1 .1 in
-    let ne = c .before .before .before .before .before .before .before .before .before .before .before .before .before .before .before .before .before .before .before .before .before .if1 .left in
+    let many = c .before .before .before .before .before .before .before .before .before .before .before .before .before .before .before .before .before .before .before .before .before .if1 .left in
     omega arith
 
 rebuild-part-rebuild-start-2 : (t : ℕ) → rebuild-lts.Need-part-rebuild-start-2 (given-rebuild t) (rebuild-at t) rebuild.Post
@@ -143,7 +151,7 @@ rebuild-part-rebuild-start-2 t c =
     let A = c .before .before .before .before .before .before .before .before .rebuild in
     let f = length-front (R .last .1 .1 .1 .1 .0) (A .last .1 .1 .1 .1 .1 .0) (length (S .args .slots .now) / 2) (A .kept .1 .1 .1 .1 .1 .0) in
     let q = R .kept .1 .1 .1 .1 .0 ∙ S .pre .1 .1 .1 in
-    let ne = c .before .before .before .before .before .before .before .before .before .before .before .before .before .before .before .before .before .before .before .before .before .if1 .left in
+    let many = c .before .before .before .before .before .before .before .before .before .before .before .before .before .before .before .before .before .before .before .before .before .if1 .left in
     omega arith
 
 rebuild-part-rebuild-end-2 : (t : ℕ) → rebuild-lts.Need-part-rebuild-end-2 (given-rebuild t) (rebuild-at t) rebuild.Post
@@ -154,7 +162,7 @@ rebuild-rebuild-requires-2 t c κs =
     let S = c .before .before .before .before .before .before .before .before .before .before .before .before .before .before .before .before .before .before .before .before .before .before .before .before .before .before in
     let l₀ = S .args .slots .now in
     let m = length l₀ / 2 in
-    let ne = c .before .before .before .before .before .before .before .before .before .before .before .before .before .before .before .before .before .before .before .before .before .before .if1 .left in
+    let many = c .before .before .before .before .before .before .before .before .before .before .before .before .before .before .before .before .before .before .before .before .before .before .if1 .left in
     let R = c .before .before .before .before .before .before .before .before .before .before .before .before .before .before .before .before .before .before .before .rank in
     let l = R .last .1 .1 .1 .0 in
     let p = R .last .1 .1 .1 .1 .0 in
@@ -169,14 +177,14 @@ rebuild-rebuild-requires-2 t c κs =
     let q : length p ≡ length l₀ = kp ∙ S .pre .1 .1 .1 in
     let x = length-drop (m + 1) l in
     let y = length-drop (m + 1) p in
-    rw (merging.rest-is l m a (omega arith) ka (m + 1) (omega arith), merging.rest-is p m a′ (omega arith) ka′ (m + 1) (omega arith)) (rw (← (S .pre .0)) (laws.upper-falls (S .args .shape) (S .args .keys .now) (S .args .links .now) (S .args .cut) l₀ l (S .pre .1 .0 .0) (S .pre .1 .0 .1) (S .pre .1 .1 .0) ne (R .ensures) kl), ((rw (A .kept .1 .0) (S .pre .1 .0 .0), N .ensures .low), (laws.ranked-parts (S .args .shape) (S .args .keys .now) (S .args .links .now) (S .args .cut) l₀ l (S .pre .1 .0 .0) (S .pre .1 .0 .1) (S .pre .1 .1 .0) ne (R .ensures) kl .right, omega arith)))
+    rw (merging.rest-is l m a (omega arith) ka (m + 1) (omega arith), merging.rest-is p m a′ (omega arith) ka′ (m + 1) (omega arith)) (rw (← (S .pre .0)) (laws.upper-falls (S .args .shape) (S .args .keys .now) (S .args .links .now) (S .args .cut) l₀ l (S .pre .1 .0 .0) (S .pre .1 .0 .1) (S .pre .1 .1 .0) (λ e. omega arith) (R .ensures) kl), ((rw (A .kept .1 .0) (S .pre .1 .0 .0), N .ensures .low), (laws.ranked-parts (S .args .shape) (S .args .keys .now) (S .args .links .now) (S .args .cut) l₀ l (S .pre .1 .0 .0) (S .pre .1 .0 .1) (S .pre .1 .1 .0) (λ e. omega arith) (R .ensures) kl .right, omega arith)))
 
 rebuild-refresh-requires : (t : ℕ) → rebuild-lts.Need-refresh-requires (given-rebuild t) (rebuild-at t) rebuild.Post
 rebuild-refresh-requires t c κs =
     let S = c .before .before .before .before .before .before .before .before .before .before .before .before .before .before .before .before .before .before .before .before .before .before .before .before .before .before .before .before .before .before .before .before .before .before in
     let l₀ = S .args .slots .now in
     let m = length l₀ / 2 in
-    let ne = c .before .before .before .before .before .before .before .before .before .before .before .before .before .before .before .before .before .before .before .before .before .before .before .before .before .before .before .before .before .before .if1 .left in
+    let many = c .before .before .before .before .before .before .before .before .before .before .before .before .before .before .before .before .before .before .before .before .before .before .before .before .before .before .before .before .before .before .if1 .left in
     let R = c .before .before .before .before .before .before .before .before .before .before .before .before .before .before .before .before .before .before .before .before .before .before .before .before .before .before .before .rank in
     let l = R .last .1 .1 .1 .0 in
     let kl = R .kept .1 .1 .1 .0 in
@@ -186,28 +194,31 @@ rebuild-refresh-requires t c κs =
     let ka = A .kept .1 .1 .1 .1 .0 in
     let D = c .before .before .before .before .before .before .before .rebuild2 in
     let e : length (D .last .1 .0) ≡ length (S .args .links .now) = D .kept .1 .0 ∙ A .kept .1 .0 in
-    let h = laws.not-tall (S .args .shape) (S .args .keys .now) (S .args .links .now) (S .args .cut) l₀ l (S .pre .1 .0 .0) (S .pre .1 .0 .1) (S .pre .1 .1 .0) ne (R .ensures) kl (N .result) (N .ensures) (A .last .1 .0) (D .last .1 .0) (A .result) (D .result) (A .kept .1 .0) (D .kept .1 .0) (A .ensures) (rw (merging.rest-is l m a (omega arith) ka (m + 1) (omega arith)) at (D .ensures)) in
-    ((rw e (laws.root-slot (S .args .shape) (S .args .keys .now) (S .args .links .now) (S .args .cut) l₀ l (S .pre .1 .0 .0) (S .pre .1 .0 .1) (S .pre .1 .1 .0) ne (R .ensures) kl), laws.fits (S .args .shape) (S .args .keys .now) (S .args .links .now) (S .args .cut) l₀ l (S .pre .1 .0 .0) (S .pre .1 .0 .1) (S .pre .1 .1 .0) ne (R .ensures) kl (N .result) (N .ensures) (A .last .1 .0) (D .last .1 .0) (A .result) (D .result) (A .kept .1 .0) (D .kept .1 .0) (A .ensures) (rw (merging.rest-is l m a (omega arith) ka (m + 1) (omega arith)) at (D .ensures))), omega arith)
-
-rebuild-returns : (t : ℕ) → rebuild-lts.Need-returns (given-rebuild t) (rebuild-at t) rebuild.Post
-rebuild-returns t c =
-    let S = c .before .before .before .before in
-    let l₀ = S .args .slots .now in
-    laws.rebuilt-nil (S .args .shape .k) (S .args .keys .now) (S .args .cut) (S .args .links .now) l₀ (c .if1 .taken)
+    let h = laws.not-tall (S .args .shape) (S .args .keys .now) (S .args .links .now) (S .args .cut) l₀ l (S .pre .1 .0 .0) (S .pre .1 .0 .1) (S .pre .1 .1 .0) (λ e. omega arith) (R .ensures) kl (N .result) (N .ensures) (A .last .1 .0) (D .last .1 .0) (A .result) (D .result) (A .kept .1 .0) (D .kept .1 .0) (A .ensures) (rw (merging.rest-is l m a (omega arith) ka (m + 1) (omega arith)) at (D .ensures)) in
+    ((rw e (laws.root-slot (S .args .shape) (S .args .keys .now) (S .args .links .now) (S .args .cut) l₀ l (S .pre .1 .0 .0) (S .pre .1 .0 .1) (S .pre .1 .1 .0) (λ e. omega arith) (R .ensures) kl), laws.fits (S .args .shape) (S .args .keys .now) (S .args .links .now) (S .args .cut) l₀ l (S .pre .1 .0 .0) (S .pre .1 .0 .1) (S .pre .1 .1 .0) (λ e. omega arith) (R .ensures) kl (N .result) (N .ensures) (A .last .1 .0) (D .last .1 .0) (A .result) (D .result) (A .kept .1 .0) (D .kept .1 .0) (A .ensures) (rw (merging.rest-is l m a (omega arith) ka (m + 1) (omega arith)) at (D .ensures))), omega arith)
 
 rebuild-same-length : (t : ℕ) → rebuild-lts.Need-same-length (given-rebuild t) (rebuild-at t) rebuild.Post
-rebuild-same-length t c =
+rebuild-same-length t c = c .before .before .rebuild-few .kept .1 .0
+
+rebuild-same-length-2 : (t : ℕ) → rebuild-lts.Need-same-length-2 (given-rebuild t) (rebuild-at t) rebuild.Post
+rebuild-same-length-2 t c = search needs
+
+rebuild-returns : (t : ℕ) → rebuild-lts.Need-returns (given-rebuild t) (rebuild-at t) rebuild.Post
+rebuild-returns t c = c .before .before .rebuild-few .ensures
+
+rebuild-same-length-3 : (t : ℕ) → rebuild-lts.Need-same-length-3 (given-rebuild t) (rebuild-at t) rebuild.Post
+rebuild-same-length-3 t c =
     let A = c .before .before .before .before .before .before .before .before .before .before .before .before .before .before .before .before .before .before .before .before .rebuild in
     let D = c .before .before .before .before .before .before .before .before .before .before .rebuild2 in
     let E = c .before .before .refresh in
     E .kept .0 ∙ D .kept .1 .0 ∙ A .kept .1 .0
 
-rebuild-same-length-2 : (t : ℕ) → rebuild-lts.Need-same-length-2 (given-rebuild t) (rebuild-at t) rebuild.Post
-rebuild-same-length-2 t c =
+rebuild-same-length-4 : (t : ℕ) → rebuild-lts.Need-same-length-4 (given-rebuild t) (rebuild-at t) rebuild.Post
+rebuild-same-length-4 t c =
     let S = c .before .before .before .before .before .before .before .before .before .before .before .before .before .before .before .before .before .before .before .before .before .before .before .before .before .before .before .before .before .before .before .before .before .before .before .before .before in
     let l₀ = S .args .slots .now in
     let m = length l₀ / 2 in
-    let ne = c .before .before .before .before .before .before .before .before .before .before .before .before .before .before .before .before .before .before .before .before .before .before .before .before .before .before .before .before .before .before .before .before .before .if1 .left in
+    let many = c .before .before .before .before .before .before .before .before .before .before .before .before .before .before .before .before .before .before .before .before .before .before .before .before .before .before .before .before .before .before .before .before .before .if1 .left in
     let R = c .before .before .before .before .before .before .before .before .before .before .before .before .before .before .before .before .before .before .before .before .before .before .before .before .before .before .before .before .before .before .rank in
     let l = R .last .1 .1 .1 .0 in
     let kl = R .kept .1 .1 .1 .0 in
@@ -219,12 +230,12 @@ rebuild-same-length-2 t c =
     let kb = D .kept .1 .1 .1 .1 .0 in
     merging.back-length l m a (omega arith) ka (m + 1) (omega arith) b kb ∙ kl
 
-rebuild-same-length-3 : (t : ℕ) → rebuild-lts.Need-same-length-3 (given-rebuild t) (rebuild-at t) rebuild.Post
-rebuild-same-length-3 t c =
+rebuild-same-length-5 : (t : ℕ) → rebuild-lts.Need-same-length-5 (given-rebuild t) (rebuild-at t) rebuild.Post
+rebuild-same-length-5 t c =
     let S = c .before .before .before .before .before .before .before .before .before .before .before .before .before .before .before .before .before .before .before .before .before .before .before .before .before .before .before .before .before .before .before .before .before .before .before .before .before in
     let l₀ = S .args .slots .now in
     let m = length l₀ / 2 in
-    let ne = c .before .before .before .before .before .before .before .before .before .before .before .before .before .before .before .before .before .before .before .before .before .before .before .before .before .before .before .before .before .before .before .before .before .if1 .left in
+    let many = c .before .before .before .before .before .before .before .before .before .before .before .before .before .before .before .before .before .before .before .before .before .before .before .before .before .before .before .before .before .before .before .before .before .if1 .left in
     let R = c .before .before .before .before .before .before .before .before .before .before .before .before .before .before .before .before .before .before .before .before .before .before .before .before .before .before .before .before .before .before .rank in
     let p = R .last .1 .1 .1 .1 .0 in
     let kp = R .kept .1 .1 .1 .1 .0 in
@@ -241,7 +252,7 @@ rebuild-returns-2 t c =
     let S = c .before .before .before .before .before .before .before .before .before .before .before .before .before .before .before .before .before .before .before .before .before .before .before .before .before .before .before .before .before .before .before .before .before .before .before .before .before in
     let l₀ = S .args .slots .now in
     let m = length l₀ / 2 in
-    let ne = c .before .before .before .before .before .before .before .before .before .before .before .before .before .before .before .before .before .before .before .before .before .before .before .before .before .before .before .before .before .before .before .before .before .if1 .left in
+    let many = c .before .before .before .before .before .before .before .before .before .before .before .before .before .before .before .before .before .before .before .before .before .before .before .before .before .before .before .before .before .before .before .before .before .if1 .left in
     let R = c .before .before .before .before .before .before .before .before .before .before .before .before .before .before .before .before .before .before .before .before .before .before .before .before .before .before .before .before .before .before .rank in
     let l = R .last .1 .1 .1 .0 in
     let kl = R .kept .1 .1 .1 .0 in
@@ -251,12 +262,13 @@ rebuild-returns-2 t c =
     let ka = A .kept .1 .1 .1 .1 .0 in
     let D = c .before .before .before .before .before .before .before .before .before .before .rebuild2 in
     let E = c .before .before .refresh in
-    laws.rebuilt-node (S .args .shape) (S .args .keys .now) (S .args .links .now) (S .args .cut) l₀ l (S .pre .1 .0 .0) (S .pre .1 .0 .1) (S .pre .1 .1 .0) ne (R .ensures) kl (N .result) (N .ensures) (A .last .1 .0) (D .last .1 .0) (A .result) (D .result) (A .kept .1 .0) (D .kept .1 .0) (A .ensures) (rw (merging.rest-is l m a (omega arith) ka (m + 1) (omega arith)) at (D .ensures)) (E .last .0) (E .kept .0) (E .ensures)
+    laws.rebuilt-node (S .args .shape) (S .args .keys .now) (S .args .links .now) (S .args .cut) l₀ l (S .pre .1 .0 .0) (S .pre .1 .0 .1) (S .pre .1 .1 .0) (λ e. omega arith) (R .ensures) kl (N .result) (N .ensures) (A .last .1 .0) (D .last .1 .0) (A .result) (D .result) (A .kept .1 .0) (D .kept .1 .0) (A .ensures) (rw (merging.rest-is l m a (omega arith) ka (m + 1) (omega arith)) at (D .ensures)) (E .last .0) (E .kept .0) (E .ensures)
 
 pub +rebuild-spec : {M : Type 1} → statement M
 +rebuild-spec = close μ-rebuild λ t. rebuild-lts.spec (given-rebuild t)
     (rebuild-at t)
     rebuild.Post
+    (rebuild-rebuild-few-requires t)
     (rebuild-rank-requires t)
     (rebuild-mul-s t)
     (rebuild-slice-read-s t)
@@ -278,8 +290,10 @@ pub +rebuild-spec : {M : Type 1} → statement M
     (rebuild-part-rebuild-end-2 t)
     (rebuild-rebuild-requires-2 t)
     (rebuild-refresh-requires t)
-    (rebuild-returns t)
     (rebuild-same-length t)
     (rebuild-same-length-2 t)
+    (rebuild-returns t)
     (rebuild-same-length-3 t)
+    (rebuild-same-length-4 t)
+    (rebuild-same-length-5 t)
     (rebuild-returns-2 t)
