@@ -22,7 +22,8 @@ typedef struct { size_t kind; int64_t low, high; } book_bound;
 /* A bound for each field; those beyond the book's fields are ignored. Between with its ends reversed holds nothing. */
 typedef struct { book_bound of[4]; } book_box;
 
-/* For nearest, the step of each field, 1 or more: how much of a difference counts as one. Those beyond the book's fields are ignored. */
+/* For nearest, the step of each field, 1 or more: how much of a difference counts as one, any part of a step as a whole one. Those beyond the
+   book's fields are ignored. */
 typedef struct { uint64_t of[4]; } book_steps;
 
 enum book_outcome { BOOK_FOUND = 1, BOOK_ABSENT = 2, BOOK_DONE = 3, BOOK_REFUSED = 4 };
@@ -51,7 +52,7 @@ typedef struct {
     book_entry entry;   /* look-up and nearest, found: the entry */
     size_t slot;        /* and the slot that it is in, from 1 */
     size_t reads;       /* look-up: how many entries it met */
-    uint64_t distance;  /* nearest, found: how far away the entry is, in steps */
+    uint64_t distance;  /* nearest, found: how far away the entry is, in steps, rounded up; 0 for the query itself alone */
     size_t count;       /* count and list: how many entries */
     size_t bytes;       /* save: the length of the text */
     size_t line;        /* refusal 9: the line */
@@ -78,8 +79,8 @@ book_answer book_count(book_head head, const int64_t *keys, size_t keys_len, con
 book_answer book_list(book_head head, const int64_t *keys, size_t keys_len, const size_t *links, size_t links_len, book_box box, int64_t *room,
                       size_t room_len);
 
-/* Finds the entry nearest the query: the least of the greatest over the fields of difference / step, at a tie the first that a list would give.
-   Found with entry, slot and distance; absent where the book is empty; refused 1 to 4 or 11. */
+/* Finds the entry nearest the query: the least of the greatest over the fields of difference / step, rounded up; at a tie the first that a list
+   would give. Found with entry, slot and distance; absent where the book is empty; refused 1 to 4 or 11. */
 book_answer book_nearest(book_head head, const int64_t *keys, size_t keys_len, const size_t *links, size_t links_len, book_entry query,
                          book_steps steps);
 

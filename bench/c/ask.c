@@ -99,12 +99,18 @@ typedef struct { book_entry query; book_steps steps; size_t slot; uint64_t dista
 
 static inline uint64_t apart(int64_t x, int64_t y) { return x < y ? (uint64_t)y - (uint64_t)x : (uint64_t)x - (uint64_t)y; }
 
+// In steps, rounded up.
+static inline uint64_t field_distance(uint64_t step, int64_t x, int64_t y) {
+    uint64_t d = apart(x, y);
+    return d / step + (d % step != 0);
+}
+
 static inline void visit(const plain_pool *p, size_t s, search *best) {
     const int64_t *x = numbers(p, s);
     size_t k = p->head.k;
     uint64_t d = 0;
     for (size_t i = 0; i < k; i++) {
-        uint64_t one = apart(x[i], best->query.f[i]) / best->steps.of[i];
+        uint64_t one = field_distance(best->steps.of[i], x[i], best->query.f[i]);
         if (one > d) d = one;
     }
     if (best->slot && d > best->distance) return;
@@ -120,7 +126,7 @@ static void nearest_in(const plain_pool *p, size_t s, size_t cut, search *best) 
         int64_t x = numbers(p, s)[cut], y = best->query.f[cut];
         size_t near = y < x ? 0 : 1, next = next_cut(p, cut);
         nearest_in(p, link_of(p, s)[near], next, best);
-        if (best->distance < apart(x, y) / best->steps.of[cut]) return;
+        if (best->distance < field_distance(best->steps.of[cut], x, y)) return;
         s = link_of(p, s)[1 - near];
         cut = next;
     }

@@ -30,7 +30,7 @@ fn main() -> Result<(), Refusal> {
         println!("  {entry:?}");
     }
 
-    if let Some(near) = book.nearest([17, 3, 410, 483], [1, 1, 5, 10])? {
+    if let Some(near) = book.nearest([17, 3, 414, 483], [1, 1, 5, 10])? {
         println!(
             "nearest the note: {:?}, distance {}",
             near.entry.f, near.distance

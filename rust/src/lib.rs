@@ -20,7 +20,7 @@
 //! assert_eq!(book.count(low)?, 2);
 //!
 //! let near = book.nearest([4, 4], [1, 2, 1, 1])?.expect("the book is not empty");
-//! assert_eq!((near.entry, near.distance), ([3, 7].into(), 1));
+//! assert_eq!((near.entry, near.distance), ([2, 4].into(), 2));
 //!
 //! book.strike(&mut scratch, [2, 4])?;
 //! let mut room = [0; 64];

@@ -75,6 +75,6 @@ pub struct Near {
     pub entry: Entry,
     /// Its slot, from 1.
     pub slot: usize,
-    /// The greatest over the fields of the difference divided by the step, rounded down.
+    /// The greatest over the fields of the difference divided by the step, rounded up: 0 for the very entry alone.
     pub distance: u64,
 }

@@ -80,11 +80,17 @@ fn distances_are_exact_over_the_range() {
     let (mut keys, mut links, mut scratch) = ([0; 1], [0; 3], [0; 1]);
     let mut book = Book::start(1, 1, &mut keys, &mut links).unwrap();
     book.add(&mut scratch, [i64::MIN]).unwrap();
-    let near = book.nearest([i64::MAX], ONES).unwrap().unwrap();
-    assert_eq!(
-        (near.entry.f[0], near.slot, near.distance),
-        (i64::MIN, 1, u64::MAX)
-    );
+    let away = |book: &Book, query, step| {
+        let near = book.nearest([query], [step, 1, 1, 1]).unwrap().unwrap();
+        assert_eq!((near.entry.f[0], near.slot), (i64::MIN, 1));
+        near.distance
+    };
+    assert_eq!(away(&book, i64::MAX, 1), u64::MAX);
+    assert_eq!(away(&book, i64::MAX, u64::MAX), 1);
+    assert_eq!(away(&book, i64::MAX, u64::MAX - 1), 2);
+    assert_eq!(away(&book, i64::MIN + 49, 50), 1);
+    assert_eq!(away(&book, i64::MIN + 50, 50), 1);
+    assert_eq!(away(&book, i64::MIN, u64::MAX), 0);
     assert_eq!(book.nearest([0], [0, 1, 1, 1]), Err(Refusal::Step));
 }
 

@@ -2,9 +2,8 @@
 use mathlib.Core.Path.{_≡_, refl, ap, _∙_}
 use mathlib.Core.Bool.{true, false, false≢true, true≢false}
 use mathlib.Core.List.{List, [], _∷_}
-use Prim.Native.Nat.{ℕ, zero, suc, _/_, _≤_, _<_, Ordering, Ordering·lt, Ordering·eq, Ordering·gt}
+use Prim.Native.Nat.{ℕ, zero, suc, _≤_, _<_, Ordering, Ordering·lt, Ordering·eq, Ordering·gt}
 use native.Mathlib.Omega.{arith}
-use native.Mathlib.Nat.{div-mul-le-self, le-div-iff-mul-le}
 use borrow.Author.Tests.{leb-true}
 use lib.Dec.{isLe}
 use lib.ListN.{length, getD}
@@ -12,6 +11,7 @@ use lib.IntN.{ℤ, pos, negsuc}
 use Rattle.model.specs.Number.{order, difference, fieldDistance}
 use Rattle.model.specs.Entry.{Entry, cutField, cmp, distance}
 use Rattle.model.specs.Tree.{isLess}
+use Rattle.model.proofs.Distances.{distance-up}
 use Rattle.model.proofs.Orders.{flip, order-flip}
 use Rattle.ask.proofs.Cuts.{cut-least}
 
@@ -53,10 +53,6 @@ not-lt-le x y h = ap isLe (order-flip x y) ∙ go (order x y) h
     go Ordering·eq e = refl
     go Ordering·gt e = refl
 
--- rounding down keeps the order
-div-up : (s a b : ℕ) → 0 < s → a ≤ b → a / s ≤ b / s
-div-up s a b p h = le-div-iff-mul-le {k = s} {x = a / s} {y = b} p .1 (let m = div-mul-le-self a s in omega arith)
-
 -- an entry is at least as far as each of its fields
 reach : (ss : List ℕ) (q e : Entry) (c : ℕ) → c < length ss → c < length q → c < length e → fieldDistance (getD ss c 0) (getD q c (pos 0)) (getD e c (pos 0)) ≤ distance ss q e
 unfolding distance
@@ -72,10 +68,9 @@ module _ (K t c : ℕ) (ss : List ℕ) (q x e : Entry) (low : c < K) (four : K �
   edgeOf = fieldDistance (getD ss c 0) (getD q c (pos 0)) (getD x c (pos 0))
 
   far : difference (getD q c (pos 0)) (getD x c (pos 0)) ≤ difference (getD q c (pos 0)) (getD e c (pos 0)) → edgeOf ≤ distance ss q e
-  unfolding fieldDistance
   far h =
       let m = reach ss q e c (omega arith) (omega arith) (omega arith) in
-      let n = div-up (getD ss c 0) (difference (getD q c (pos 0)) (getD x c (pos 0))) (difference (getD q c (pos 0)) (getD e c (pos 0))) step h in
+      let n = distance-up (getD ss c 0) (getD q c (pos 0)) (getD x c (pos 0)) (getD e c (pos 0)) step h in
       omega arith
 
   pub far-right : isLess (order (getD q c (pos 0)) (getD x c (pos 0))) ≡ true → isLess (cmp t x e) ≡ true → edgeOf ≤ distance ss q e

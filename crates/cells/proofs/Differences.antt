@@ -1,7 +1,7 @@
--- From signed numbers to their bits and their exact difference.
+-- From signed numbers to their bits, their exact difference and its steps.
 use mathlib.Core.Path.{_≡_, refl, sym, ap, _∙_}
 use mathlib.Core.Bool.{Bool, true, false}
-use Prim.Native.Nat.{ℕ, suc, _+_, _-_, _%_, _^_, _<_}
+use Prim.Native.Nat.{ℕ, suc, _+_, _-_, _/_, _%_, _^_, _≤_, _<_}
 use native.Mathlib.Omega.{arith}
 use borrow.Author.Tests.{ltb-true, ltb-false, le-ltb, leb-true, le-leb}
 use lib.Dec.{T}
@@ -10,7 +10,8 @@ use lib.Signed.{ltZ, leZ, nonNeg}
 use mir.Syntax.{w64}
 use mir.Val.{toZ, ofZ, SFits, Fits}
 use mir.ValLaws.{toZ-ofZ, toZ-pos}
-use Rattle.model.specs.Number.{difference}
+use Rattle.model.specs.Number.{difference, fieldDistance}
+use Rattle.model.proofs.Distances.{distance-low}
 use Rattle.cells.specs.Bits.{bitsOf}
 
 -- a number z that is k, which fits: what a cast to u64 asks and gives
@@ -86,3 +87,19 @@ module _ (lo hi : ℤ) (flo : SFits w64 lo) (fhi : SFits w64 hi) (r p q : ℕ) (
       let ep′ : p ≡ bitsOf hi = cc in
       let eq′ : q ≡ bitsOf lo = cc in
       wrapped r fr lo hi flo fhi t (rw eq′ at e ∙ ep′)
+
+-- a difference d, had of two signed locals, in steps: the whole steps where nothing is left over, else one more, which is no more than d
+module _ (step : ℕ) (a b : ℤ) (fa : SFits w64 a) (fb : SFits w64 b) (d : ℕ) (e : d ≡ difference (toZ w64 (ofZ w64 a)) (toZ w64 (ofZ w64 b))) where
+  is-apart : d ≡ difference a b
+  is-apart = cc (e, toZ-ofZ w64 a fa, toZ-ofZ w64 b fb)
+
+  pub whole-steps : d % step ≡ 0 → d / step ≡ fieldDistance step a b
+  unfolding fieldDistance
+  whole-steps z = rw (← is-apart) (omega arith)
+
+  pub one-more : ¬ (d % step ≡ 0) → d / step + 1 ≡ fieldDistance step a b
+  unfolding fieldDistance
+  one-more n = rw (← is-apart) (omega arith)
+
+  pub one-more-low : 0 < step → ¬ (d % step ≡ 0) → d / step + 1 ≤ d
+  one-more-low some n = let f = one-more n in let g = is-apart in let l = distance-low step a b some in omega arith

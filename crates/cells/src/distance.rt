@@ -31,12 +31,14 @@ pub fn difference_of(a: i64, b: i64) -> u64
     std::num::wrapping_sub_u64(bits(a), bits(b))
 }
 
-// How far two numbers are apart in whole steps.
+// How far two numbers are apart in steps, rounded up: one more than the whole steps where something is left over.
 pub fn field_distance(step: u64, a: i64, b: i64) -> u64
     requires { ⌜ 0 < step ⌝ }
     ensures { λ r. ⌜ r ≡ fieldDistance step a b ⌝ }
 {
-    difference_of(a, b) / step
+    let apart = difference_of(a, b);
+    let whole = apart / step;
+    if apart % step == 0 { whole } else { whole + 1 }
 }
 
 // The greatest over the fields of a part.

@@ -18,6 +18,7 @@ pub mod Laid
 pub mod Sounds
 pub mod Backs
 pub mod Listings
+pub mod Distances
 pub mod Nears
 pub mod Prints
 pub mod Texts

@@ -29,7 +29,7 @@ isEq-true Ordering·lt h = absurd (false≢true h)
 isEq-true Ordering·eq h = refl
 isEq-true Ordering·gt h = absurd (false≢true h)
 
-or-false : (a b : Bool) → (a || b) ≡ false → (a ≡ false) × (b ≡ false)
+pub or-false : (a b : Bool) → (a || b) ≡ false → (a ≡ false) × (b ≡ false)
 or-false true b h = absurd (true≢false h)
 or-false false b h = (refl, h)
 

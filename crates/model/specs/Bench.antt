@@ -102,7 +102,7 @@ pub record Bench : Type 0 where
       × (perform (Call.count (Between (pos 5) (pos 5) ∷ Free ∷ Free ∷ Free ∷ [])) fives .answer .count ≡ 2)
   pub B7 : perform (Call.nearest (given 5 0) (1 ∷ 1 ∷ 0 ∷ 0 ∷ [])) tens ≡ reading (close (tens .head) (two 0 0) 1 5) (tens .keys) (tens .links)
   pub B8 : difference (negsuc 9223372036854775807) (pos 9223372036854775807) ≡ 18446744073709551615
-  pub B9 : (fieldDistance 50 (pos 0) (pos 49) ≡ 0) × (fieldDistance 50 (pos 0) (pos 50) ≡ 1)
+  pub B9 : (fieldDistance 50 (pos 0) (pos 49) ≡ 1) × (fieldDistance 50 (pos 0) (pos 50) ≡ 1)
   pub B10 : (tallest 3 ≡ 2) × (tallest 4 ≡ 3) × (tallest 6 ≡ 3) × (tallest 7 ≡ 4) × (tallest 4096 ≡ 16)
       × (fewest 2 ≡ 2) × (fewest 3 ≡ 4) × (fewest 4 ≡ 7) × (fewest 5 ≡ 12) × (fewest 6 ≡ 20) × (fewest 16 ≡ 2583) × (fewest 17 ≡ 4180)
   pub B11 : rebuild 0 (item 1 (two 1 1) ∷ item 2 (two 2 2) ∷ []) ≡ node (item 2 (two 2 2)) (node (item 1 (two 1 1)) nil nil) nil

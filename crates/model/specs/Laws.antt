@@ -3,10 +3,11 @@ use mathlib.Core.Path.{_≡_}
 use mathlib.Core.List.{List, [], _∷_, _++_, List·Permᴰ}
 use mathlib.Core.Option.{Option, none, some}
 use mathlib.Core.Bool.{true, false, not}
-use Prim.Native.Nat.{ℕ, suc, _+_, _≤_, _<_, Ordering·lt}
+use Prim.Native.Nat.{ℕ, suc, _+_, _*_, _≤_, _<_, Ordering·lt}
 use lib.Dec.{eqb}
-use lib.ListN.{length}
+use lib.ListN.{length, take}
 use lib.IntN.{ℤ}
+use Rattle.model.specs.Number.{difference, fieldDistance}
 use Rattle.model.specs.Entry.{Entry, cmp, distance}
 use Rattle.model.specs.Tree.{Item, Tree, items, entriesOf, slotsOf, height, size, balanced, ordered}
 use Rattle.model.specs.Rebuild.{rank, rebuild, listing}
@@ -18,7 +19,7 @@ use Rattle.model.specs.Text.{broken, saved, ranged, textOf, parse}
 use Rattle.model.specs.Lines.{rightLine}
 use Rattle.model.specs.Answer.{Row, gate, refused, refusedAt}
 use Rattle.model.specs.Gate.{leaving, writing}
-use Rattle.model.specs.Calls.{addedAll}
+use Rattle.model.specs.Calls.{anyZero, addedAll}
 use Rattle.model.specs.Tray.{Work, adding, striking, works, trayRows, tray}
 use Rattle.model.specs.Show.{bookLines, program}
 use Rattle.model.specs.Demands.{InOrder, rising}
@@ -50,6 +51,18 @@ pub record Heights (n : ℕ) : Type 0 where
   pub passed : (u : Tree) → balanced u ≡ true → size u ≡ n → height u ≤ tallest n
   pub attained : (u : Tree) × (size u ≡ n) × (height u ≡ tallest n) × (balanced u ≡ true) × (ordered 0 u ≡ true)
   pub sixteen : n ≤ 4096 → tallest n ≤ 16
+
+-- By a step of 1 or more, a field's distance is the least number of steps that covers the difference; it is 0 for equal numbers alone. (M-102.)
+pub record Distances (step : ℕ) (x y : ℤ) : Type 0 where
+  pub covers : 1 ≤ step → difference x y ≤ fieldDistance step x y * step
+  pub least : 1 ≤ step → (m : ℕ) → difference x y ≤ m * step → fieldDistance step x y ≤ m
+  pub equal : x ≡ y → fieldDistance step x y ≡ 0
+  pub alone : 1 ≤ step → fieldDistance step x y ≡ 0 → x ≡ y
+
+-- Where no step of the K fields is 0, an entry is at distance 0 from itself alone. (M-102: any departure is at least one step.)
+pub record Perfect (K : ℕ) (steps : List ℕ) (q e : Entry) : Type 0 where
+  pub equal : q ≡ e → distance steps q e ≡ 0
+  pub alone : length q ≡ K → length e ≡ K → K ≤ length steps → anyZero (take K steps) ≡ false → distance steps q e ≡ 0 → q ≡ e
 
 -- The nearest is one of the entries, none is nearer, and of those as near none comes before it in listing order.
 pub record Nearest (steps : List ℕ) (q : Entry) (es : List Entry) : Type 0 where

@@ -1,7 +1,7 @@
 -- Numbers: their order, their difference, the distance of a field.
 -- No value is special; both ends of the signed 64-bit range are ordinary numbers.
 use mathlib.Core.Bool.{Bool}
-use Prim.Native.Nat.{ℕ, suc, _+_, _-_, _/_, min, max, compare, Ordering, Ordering·lt, Ordering·gt}
+use Prim.Native.Nat.{ℕ, suc, _+_, _-_, _/_, _%_, min, max, compare, Ordering, Ordering·lt, Ordering·gt}
 use lib.Dec.{ltb}
 use lib.IntN.{ℤ, pos, negsuc}
 
@@ -19,9 +19,10 @@ difference (pos a) (negsuc b) = a + suc b
 difference (negsuc a) (pos b) = b + suc a
 difference (negsuc a) (negsuc b) = max a b - min a b
 
--- The distance of one field: the difference counted in whole steps, rounded down. (Questions, Nearest; B9.)
+-- The distance of one field: the difference divided by the step, and one more where something is left over; exact equality alone is 0.
+-- (Questions, Nearest; B9; as changed by M-102: rounded up.)
 unfoldable pub fieldDistance : ℕ → ℤ → ℤ → ℕ
-fieldDistance step x y = difference x y / step
+fieldDistance step x y = difference x y / step + min 1 (difference x y % step)
 
 -- A number that 64 signed bits can hold. (Saved book: any other number is malformed.)
 abbrev pub inRange : ℤ → Bool

@@ -43,9 +43,15 @@ pub fn difference(one: i64, other: i64) -> u64 {
     (i128::from(one) - i128::from(other)).unsigned_abs() as u64
 }
 
-/// Distance of an entry: its greatest field distance, each a difference in whole steps.
+/// Distance of a field: its difference in steps, any part of a step counting as one; in a wider type too.
+fn field_distance(one: i64, other: i64, step: u64) -> u64 {
+    let (apart, step) = (i128::from(difference(one, other)), i128::from(step));
+    ((apart + step - 1) / step) as u64
+}
+
+/// Distance of an entry: its greatest field distance.
 pub fn distance(entry: &Entry, query: &Entry, steps: &[u64; 4], k: usize) -> u64 {
     (0..k)
-        .map(|i| difference(entry.f[i], query.f[i]) / steps[i])
+        .map(|i| field_distance(entry.f[i], query.f[i], steps[i]))
         .fold(0, u64::max)
 }

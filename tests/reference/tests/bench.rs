@@ -135,17 +135,34 @@ fn b8_the_range_ends_are_the_whole_range_apart() {
     assert_eq!(difference(i64::MAX, i64::MIN), 18446744073709551615);
     let mut lent = Lent::start(1, 1);
     lent.add(&[i64::MIN]);
-    assert_eq!(
-        lent.nearest(&[i64::MAX], &[1]),
-        near(&lent, &[i64::MIN], 1, 18446744073709551615)
-    );
+    for (step, distance) in [
+        (1, 18446744073709551615),
+        (2, 1 << 63),
+        (u64::MAX - 1, 2),
+        (u64::MAX, 1),
+    ] {
+        assert_eq!(
+            lent.nearest(&[i64::MAX], &[step]),
+            near(&lent, &[i64::MIN], 1, distance)
+        );
+    }
+    assert_eq!(lent.nearest(&[i64::MIN + 1], &[u64::MAX]).distance, 1);
+    assert_eq!(lent.nearest(&[i64::MIN], &[u64::MAX]).distance, 0);
 }
 
 #[test]
-fn b9_a_step_of_50_rounds_down() {
+fn b9_a_step_of_50_rounds_up() {
     let mut lent = Lent::start(1, 1);
     lent.add(&[100]);
-    for (query, distance) in [(51, 0), (50, 1), (149, 0), (150, 1), (100, 0), (199, 1)] {
+    for (query, distance) in [
+        (51, 1),
+        (50, 1),
+        (149, 1),
+        (150, 1),
+        (100, 0),
+        (101, 1),
+        (199, 2),
+    ] {
         assert_eq!(
             lent.nearest(&[query], &[50]),
             near(&lent, &[100], 1, distance)

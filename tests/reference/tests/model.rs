@@ -74,7 +74,7 @@ impl Model {
         for f in &self.set {
             let mut far = 0;
             for i in 0..self.k {
-                far = far.max(f[i].abs_diff(query[i]) / steps[i]);
+                far = far.max(f[i].abs_diff(query[i]).div_ceil(steps[i]));
             }
             if best.as_ref().is_none_or(|(_, least)| far < *least) {
                 best = Some((f.clone(), far));

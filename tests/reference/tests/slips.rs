@@ -51,7 +51,7 @@ fn a_tie_on_the_other_side_may_win() {
     let near = lent.nearest(&[6, 0], &[3, 1]);
     assert_eq!(
         (near.entry, near.slot, near.distance),
-        (entry(&[4, 0]), 1, 0)
+        (entry(&[4, 0]), 1, 1)
     );
     let near = lent.nearest(&[4, 9], &[9, 9]);
     assert_eq!(
