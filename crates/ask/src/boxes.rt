@@ -48,7 +48,7 @@ pub fn weigh(part: &[i64], cut: usize, bounds: [Bound; 4]) -> Sides
     let b = bounds[cut];
     let lower = lower_open(b, x);
     let upper = upper_open(b, x);
-    let here = cells::distance::inside(bounds, part);
+    let here = gauge::bounds::inside(bounds, part);
     Sides { lower, here, upper }
 }
 

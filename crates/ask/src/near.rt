@@ -66,7 +66,7 @@ pub fn visit(shape: Shape, s: usize, q: Entry, steps: [u64; 4], keys: &[i64], be
     let k = shape.k;
     let i = cells::slot::address(shape, s);
     let z = i + k;
-    let d = cells::distance::distance_of(steps, q, &keys[i..z]);
+    let d = gauge::distance::distance_of(steps, q, &keys[i..z]);
     better(keys, shape, best, s, d)
 }
 
@@ -89,7 +89,7 @@ pub fn turn_at(
     let i = cells::slot::address(shape, s);
     let x = keys[i + cut];
     let y = f[cut];
-    let edge = cells::distance::field_distance(steps[cut], y, x);
+    let edge = gauge::distance::field_distance(steps[cut], y, x);
     let left = cells::slot::left_of(links, s);
     let right = cells::slot::right_of(links, s);
     if y < x {

@@ -1,4 +1,3 @@
-// One slot: its numbers and links, one comparison, one difference, one bound.
-pub mod distance;
+// One slot: its numbers and links, and the one comparison.
 pub mod order;
 pub mod slot;

@@ -1,6 +1,6 @@
 use mathlib.Core.Path.{_≡_, sym, _∙_, ap}
 use Rattle.model.specs.declared.Bound.{Bound}
-use Rattle.cells.proofs.Boxes.{le-back}
+use Rattle.gauge.proofs.Boxes.{le-back}
 use Rattle.ask.specs.Boxes.{upperOpen}
 use borrow.Author.Needs.{needs}
 use Rattle.ask.proofs.boxes.upper_open.Statement.{statement}

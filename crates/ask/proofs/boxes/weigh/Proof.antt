@@ -6,7 +6,7 @@ use Rattle.ask.proofs.boxes.weigh.Reads as reads
 use Rattle.ask.proofs.boxes.weigh.Lts as lts
 use Rattle.ask.proofs.boxes.lower_open.Reads as lower-open-reads
 use Rattle.ask.proofs.boxes.upper_open.Reads as upper-open-reads
-use Rattle.cells.proofs.distance.inside.Reads as inside-reads
+use Rattle.gauge.proofs.bounds.inside.Reads as inside-reads
 
 mul-x : tie.Need-mul-x
 mul-x c = search needs

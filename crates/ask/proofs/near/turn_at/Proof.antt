@@ -7,7 +7,7 @@ use Rattle.ask.proofs.near.turn_at.Statement.{statement}
 use Rattle.ask.proofs.near.turn_at.Tie as tie
 use Rattle.ask.proofs.near.turn_at.Reads as reads
 use Rattle.ask.proofs.near.turn_at.Lts as lts
-use Rattle.cells.proofs.distance.field_distance.Reads as field-distance-reads
+use Rattle.gauge.proofs.distance.field_distance.Reads as field-distance-reads
 use Rattle.cells.proofs.slot.address.Reads as address-reads
 use Rattle.cells.proofs.slot.left_of.Reads as left-of-reads
 use Rattle.cells.proofs.slot.right_of.Reads as right-of-reads

@@ -10,7 +10,7 @@ use Rattle.ask.proofs.near.visit.Tie as tie
 use Rattle.ask.proofs.near.visit.Reads as reads
 use Rattle.ask.proofs.near.visit.Lts as lts
 use Rattle.ask.proofs.near.better.Reads as better-reads
-use Rattle.cells.proofs.distance.distance_of.Reads as distance-of-reads
+use Rattle.gauge.proofs.distance.distance_of.Reads as distance-of-reads
 use Rattle.cells.proofs.slot.address.Reads as address-reads
 
 address-requires : tie.Need-address-requires

@@ -3,12 +3,12 @@ use lib.Dec.{isLe}
 use Rattle.model.specs.Number.{order}
 use Rattle.model.specs.Ask.{holds}
 use Rattle.model.specs.declared.Bound.{Bound}
-use Rattle.cells.proofs.Boxes.{le-back, and-on, and-off}
+use Rattle.gauge.proofs.Boxes.{le-back, and-on, and-off}
 use borrow.Author.Needs.{needs}
-use Rattle.cells.proofs.distance.within.Statement.{statement}
-use Rattle.cells.proofs.distance.within.Tie as tie
-use Rattle.cells.proofs.distance.within.Reads as reads
-use Rattle.cells.proofs.distance.within.Lts as lts
+use Rattle.gauge.proofs.bounds.within.Statement.{statement}
+use Rattle.gauge.proofs.bounds.within.Tie as tie
+use Rattle.gauge.proofs.bounds.within.Reads as reads
+use Rattle.gauge.proofs.bounds.within.Lts as lts
 
 enum-told : tie.Need-enum-told
 enum-told c = search needs

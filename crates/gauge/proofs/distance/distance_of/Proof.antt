@@ -5,12 +5,12 @@ use mathlib.Core.Logic.{⊎-elim}
 use Prim.Native.Nat.{_≤_, _-_, max}
 use lib.ListN.{length, drop}
 use Rattle.model.specs.Entry.{distance}
-use Rattle.cells.proofs.Boxes.{dist-turn, dist-end, dist-front}
-use Rattle.cells.proofs.distance.distance_of.Statement.{statement}
-use Rattle.cells.proofs.distance.distance_of.Tie as tie
-use Rattle.cells.proofs.distance.distance_of.Reads as reads
-use Rattle.cells.proofs.distance.distance_of.Lts as lts
-use Rattle.cells.proofs.distance.field_distance.Reads as field-distance-reads
+use Rattle.gauge.proofs.Boxes.{dist-turn, dist-end, dist-front}
+use Rattle.gauge.proofs.distance.distance_of.Statement.{statement}
+use Rattle.gauge.proofs.distance.distance_of.Tie as tie
+use Rattle.gauge.proofs.distance.distance_of.Reads as reads
+use Rattle.gauge.proofs.distance.distance_of.Lts as lts
+use Rattle.gauge.proofs.distance.field_distance.Reads as field-distance-reads
 
 abbrev Inv-loop : tie.InvT-loop
 Inv-loop part steps f best₀ i₀ best i = (i ≤ length part) × (distance steps f part ≡ max best (distance (drop i steps) (drop i f) (drop i part)))

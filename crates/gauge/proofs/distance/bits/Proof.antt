@@ -1,10 +1,10 @@
 use native.Mathlib.Omega.{arith}
 use mathlib.Core.Path.{_≡_, sym, _∙_, ap}
-use Rattle.cells.proofs.Differences.{up, over, cast-asks, cast-is}
-use Rattle.cells.proofs.distance.bits.Statement.{statement}
-use Rattle.cells.proofs.distance.bits.Tie as tie
-use Rattle.cells.proofs.distance.bits.Reads as reads
-use Rattle.cells.proofs.distance.bits.Lts as lts
+use Rattle.gauge.proofs.Differences.{up, over, cast-asks, cast-is}
+use Rattle.gauge.proofs.distance.bits.Statement.{statement}
+use Rattle.gauge.proofs.distance.bits.Tie as tie
+use Rattle.gauge.proofs.distance.bits.Reads as reads
+use Rattle.gauge.proofs.distance.bits.Lts as lts
 
 sub-up : tie.Need-sub-up
 sub-up c =

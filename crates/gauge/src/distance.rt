@@ -1,13 +1,11 @@
-// How far apart two numbers and two entries are, and whether a bound and a box hold them.
-use model::Bound;
+// How far apart two numbers and two entries are.
 use model::Entry;
 ghost use mathlib.Core.Path.{_≡_};
 ghost use Prim.Native.Nat.{ℕ, _<_, _≤_};
 ghost use lib.ListN.{length, take, getD};
 ghost use Rattle.model.specs.Number.{difference, fieldDistance};
 ghost use Rattle.model.specs.Entry.{distance};
-ghost use Rattle.model.specs.Ask.{holds, inBox};
-ghost use Rattle.cells.specs.Bits.{bitsOf};
+ghost use Rattle.gauge.specs.Bits.{bitsOf};
 
 // The 64 bits of a number, in two's complement.
 pub fn bits(x: i64) -> u64
@@ -58,32 +56,4 @@ pub fn distance_of(steps: [u64; 4], q: Entry, part: &[i64]) -> u64
         i += 1;
     }
     best
-}
-
-// Whether a bound holds a number, ends included.
-pub fn within(b: Bound, x: i64) -> bool
-    ensures { λ r. ⌜ r ≡ holds b x ⌝ }
-{
-    match b {
-        Bound::Free => true,
-        Bound::AtLeast(lo) => lo <= x,
-        Bound::AtMost(hi) => x <= hi,
-        Bound::Between(lo, hi) => { if lo <= x { x <= hi } else { false } }
-    }
-}
-
-// Whether the bounds hold the numbers of a part.
-pub fn inside(bounds: [Bound; 4], part: &[i64]) -> bool
-    requires { ⌜ length (now part) ≤ 4 ⌝ }
-    ensures { λ r. ⌜ r ≡ inBox bounds (now (part .entry)) ⌝ }
-{
-    let mut i: usize = 0;
-    while i < part.len() {
-        let b = bounds[i];
-        if !within(b, part[i]) {
-            return false;
-        }
-        i += 1;
-    }
-    true
 }

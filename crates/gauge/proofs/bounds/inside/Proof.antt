@@ -6,12 +6,12 @@ use Prim.Native.Nat.{_≤_, _-_, _+_}
 use lib.ListN.{length, drop}
 use borrow.Author.Tests.{not-true, not-false}
 use Rattle.model.specs.Ask.{inBox}
-use Rattle.cells.proofs.Boxes.{box-turn, box-end}
-use Rattle.cells.proofs.distance.inside.Statement.{statement}
-use Rattle.cells.proofs.distance.inside.Tie as tie
-use Rattle.cells.proofs.distance.inside.Reads as reads
-use Rattle.cells.proofs.distance.inside.Lts as lts
-use Rattle.cells.proofs.distance.within.Reads as within-reads
+use Rattle.gauge.proofs.Boxes.{box-turn, box-end}
+use Rattle.gauge.proofs.bounds.inside.Statement.{statement}
+use Rattle.gauge.proofs.bounds.inside.Tie as tie
+use Rattle.gauge.proofs.bounds.inside.Reads as reads
+use Rattle.gauge.proofs.bounds.inside.Lts as lts
+use Rattle.gauge.proofs.bounds.within.Reads as within-reads
 
 abbrev Inv-loop : tie.InvT-loop
 Inv-loop part bounds i₀ i = (i ≤ length part) × (inBox bounds part ≡ inBox (drop i bounds) (drop i part))

@@ -1,13 +1,13 @@
 use native.Mathlib.Omega.{arith}
 use mathlib.Core.Path.{_≡_, sym, _∙_, ap}
 use Rattle.cells.proofs.Signs.{lt-plain}
-use Rattle.cells.proofs.Differences.{from-bits, diff-sym, lt-le, not-lt}
+use Rattle.gauge.proofs.Differences.{from-bits, diff-sym, lt-le, not-lt}
 use borrow.Author.Needs.{needs}
-use Rattle.cells.proofs.distance.difference_of.Statement.{statement}
-use Rattle.cells.proofs.distance.difference_of.Tie as tie
-use Rattle.cells.proofs.distance.difference_of.Reads as reads
-use Rattle.cells.proofs.distance.difference_of.Lts as lts
-use Rattle.cells.proofs.distance.bits.Reads as bits-reads
+use Rattle.gauge.proofs.distance.difference_of.Statement.{statement}
+use Rattle.gauge.proofs.distance.difference_of.Tie as tie
+use Rattle.gauge.proofs.distance.difference_of.Reads as reads
+use Rattle.gauge.proofs.distance.difference_of.Lts as lts
+use Rattle.gauge.proofs.distance.bits.Reads as bits-reads
 use Rattle.std.proofs.num.wrapping_sub_u64.Reads as wrapping-sub-u64-reads
 
 bits-requires : tie.Need-bits-requires

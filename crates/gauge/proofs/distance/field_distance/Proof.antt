@@ -1,11 +1,11 @@
 use native.Mathlib.Omega.{arith}
-use Rattle.cells.proofs.Differences.{whole-steps, one-more, one-more-low}
+use Rattle.gauge.proofs.Differences.{whole-steps, one-more, one-more-low}
 use borrow.Author.Needs.{needs}
-use Rattle.cells.proofs.distance.field_distance.Statement.{statement}
-use Rattle.cells.proofs.distance.field_distance.Tie as tie
-use Rattle.cells.proofs.distance.field_distance.Reads as reads
-use Rattle.cells.proofs.distance.field_distance.Lts as lts
-use Rattle.cells.proofs.distance.difference_of.Reads as difference-of-reads
+use Rattle.gauge.proofs.distance.field_distance.Statement.{statement}
+use Rattle.gauge.proofs.distance.field_distance.Tie as tie
+use Rattle.gauge.proofs.distance.field_distance.Reads as reads
+use Rattle.gauge.proofs.distance.field_distance.Lts as lts
+use Rattle.gauge.proofs.distance.difference_of.Reads as difference-of-reads
 
 difference-of-requires : tie.Need-difference-of-requires
 difference-of-requires c κs = search needs

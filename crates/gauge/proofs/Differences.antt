@@ -12,7 +12,7 @@ use mir.Val.{toZ, ofZ, SFits, Fits}
 use mir.ValLaws.{toZ-ofZ, toZ-pos}
 use Rattle.model.specs.Number.{difference, fieldDistance}
 use Rattle.model.proofs.Distances.{distance-low}
-use Rattle.cells.specs.Bits.{bitsOf}
+use Rattle.gauge.specs.Bits.{bitsOf}
 
 -- a number z that is k, which fits: what a cast to u64 asks and gives
 module _ (z : ℤ) (k : ℕ) (e : z ≡ pos k) (h : k < 2 ^ 63) where

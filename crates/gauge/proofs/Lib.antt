@@ -1,0 +1,3 @@
+-- Laws of one difference and one bound.
+pub mod Differences
+pub mod Boxes

@@ -1,0 +1,3 @@
+// An entry beside a query and a box.
+pub mod bounds;
+pub mod distance;
