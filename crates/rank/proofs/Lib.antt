@@ -1,6 +1,8 @@
 -- Laws of ranking and rebuilding.
 pub mod Sorting
 pub mod Merging
+pub mod Halving
+pub mod Placing
 pub mod Threes
 pub mod Cutting
 pub mod Gathering

@@ -3,3 +3,4 @@ pub mod few;
 pub mod gather;
 pub mod merge;
 pub mod rebuild;
+pub mod short;
