@@ -22,12 +22,13 @@ use Rattle.cells.specs.declared.order.Order.the-variants.{Less, Equal, Greater}
 use Rattle.cells.proofs.Reps.{Node, open-node, open-nil, unique, rep-frame, frame-self, frame-trans, in-left, in-right, in-cases}
 use Rattle.ask.proofs.Walks.{keyed-in}
 use Rattle.rank.proofs.Merging.{cut-here}
-use Rattle.rank.proofs.Shapes.{every-in, in-perm}
-use Rattle.alter.specs.Alters.{MendableOn, MendedOn, Insertable, Inserted, InsertedOn}
+use Rattle.build.proofs.Shapes.{every-in, in-perm}
+use Rattle.alter.specs.Alters.{Insertable, Inserted, InsertedOn}
+use Rattle.mend.specs.Mends.{MendableOn, MendedOn}
 use Rattle.seek.specs.Sides.{itemIn, childAt, otherOf, onSide}
 use Rattle.seek.specs.declared.side.Side.{Side}
 use Rattle.seek.specs.declared.side.Side.the-variants.{Left, Right}
-use Rattle.alter.proofs.Sided.{Sided, sided, Halves, halves, sided-perm, whole-perm, child-same}
+use Rattle.mend.proofs.Sided.{Sided, sided, Halves, halves, sided-perm, whole-perm, child-same}
 
 -- ---- the slots of the grown tree
 

@@ -1,9 +1,5 @@
--- Laws of mending, inserting and striking.
-pub mod Heights
+-- Laws of inserting and striking.
 pub mod Heirs
 pub mod Inserting
-pub mod Littles
-pub mod Mending
 pub mod Replaced
-pub mod Sided
 pub mod Struck

@@ -21,8 +21,8 @@ use Rattle.cells.specs.Slots.{heightAt, tall, numbersOf, Slot}
 use Rattle.cells.specs.Memory.{Rep, In, Same, Frame}
 use Rattle.cells.proofs.Slots.{tall-slot}
 use Rattle.cells.proofs.Reps.{tall-rep, unique, in-left, in-right, in-cases, in-node, rep-frame, frame-trans}
-use Rattle.rank.proofs.Shapes.{every-in, in-perm}
-use Rattle.alter.specs.Alters.{MendableOn, MendedOn}
+use Rattle.build.proofs.Shapes.{every-in, in-perm}
+use Rattle.mend.specs.Mends.{MendableOn, MendedOn}
 use Rattle.seek.specs.Sides.{itemIn, childAt, otherOf, onSide}
 use Rattle.alter.specs.Strikes.{Strikable, StrikableOn, StruckOut, StruckOn}
 use Rattle.seek.specs.declared.side.Side.{Side}

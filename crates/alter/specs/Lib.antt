@@ -1,4 +1,3 @@
 -- What the contracts of this crate cite.
 pub mod Alters
-pub mod Listings
 pub mod Strikes

@@ -57,5 +57,5 @@ pub fn insert_on(
     let next = cells::order::next_cut(shape, cut);
     let child = seek::side::child_of(links, s, side);
     let grown = insert(keys, links, shape, next, child, new, scratch, spare);
-    crate::mend::mend_on(keys, links, shape, cut, s, side, grown, scratch, spare)
+    mend::upward::mend_on(keys, links, shape, cut, s, side, grown, scratch, spare)
 }

@@ -92,7 +92,7 @@ pub fn strike_on(
     let next = cells::order::next_cut(shape, cut);
     let child = seek::side::child_of(links, s, side);
     let x = strike(keys, links, shape, next, child, e, scratch, spare);
-    let root = crate::mend::mend_on(keys, links, shape, cut, s, side, x.root, scratch, spare);
+    let root = mend::upward::mend_on(keys, links, shape, cut, s, side, x.root, scratch, spare);
     Struck {
         root,
         freed: x.freed,

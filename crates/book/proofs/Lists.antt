@@ -27,7 +27,7 @@ use Rattle.ask.specs.Boxes.{boxed, slotsIn}
 use Rattle.ask.proofs.Listed.{box-listing, box-count}
 use Rattle.rank.specs.Ranking.{itemsAt}
 use Rattle.rank.proofs.Merging.{rank-items, ranked-slots}
-use Rattle.rank.proofs.Shapes.{items-held}
+use Rattle.build.proofs.Shapes.{items-held}
 use Rattle.reply.specs.Gates.{told, pooled}
 use Rattle.sheet.specs.Listing.{numbersIn, rankedIn, FilledWith}
 use Rattle.reply.specs.declared.gate.Gate.{Gate}

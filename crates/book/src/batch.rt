@@ -30,7 +30,7 @@ pub fn tray(
     if let First::Item(place, why) = w {
         return answer::refused_at(head, place, why);
     }
-    rank::gather::clear(scratch);
+    build::gather::clear(scratch);
     let after = desk::spare::work(head, keys, links, scratch, items);
     answer::plain(Outcome::Done, after)
 }

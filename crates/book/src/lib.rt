@@ -151,7 +151,7 @@ pub fn add(
     if head.n == c {
         return answer::refused(head, Refusal::Full);
     }
-    rank::gather::clear(scratch);
+    build::gather::clear(scratch);
     let after = desk::spare::add(head, keys, links, scratch, entry);
     answer::plain(Outcome::Done, after)
 }
@@ -176,7 +176,7 @@ pub fn strike(
     if !weigh::pool::is_there(head, keys, links, entry) {
         return answer::refused(head, Refusal::Missing);
     }
-    rank::gather::clear(scratch);
+    build::gather::clear(scratch);
     let after = desk::spare::strike(head, keys, links, scratch, entry);
     answer::plain(Outcome::Done, after)
 }
@@ -226,7 +226,7 @@ pub fn take_in(
             if c - head.n < new {
                 return answer::refused(head, Refusal::Full);
             }
-            rank::gather::clear(scratch);
+            build::gather::clear(scratch);
             let after = desk::spare::take_in(head, keys, links, scratch, text, lines);
             answer::plain(Outcome::Done, after)
         }

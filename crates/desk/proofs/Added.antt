@@ -27,7 +27,7 @@ use Rattle.model.proofs.Trees.{All}
 use Rattle.cells.specs.Slots.{Slot, Keyed}
 use Rattle.cells.specs.Memory.{Rep, In, Same, Frame, Claimed}
 use Rattle.cells.proofs.Reps.{rep-frame, frame-trans, link-cells}
-use Rattle.rank.proofs.Shapes.{every-in}
+use Rattle.build.proofs.Shapes.{every-in}
 use Rattle.alter.proofs.Struck.{every-of}
 use Rattle.alter.specs.Alters.{Insertable, Inserted}
 use Rattle.seek.specs.Sides.{itemIn}

@@ -20,7 +20,7 @@ use Rattle.cells.specs.Slots.{Slot, Keyed, Room}
 use Rattle.cells.specs.Memory.{Rep, In, Same}
 use Rattle.cells.proofs.Slots.{numbers-long}
 use Rattle.cells.proofs.Reps.{link-cells, rep-lies}
-use Rattle.rank.proofs.Shapes.{every-in}
+use Rattle.build.proofs.Shapes.{every-in}
 use Rattle.alter.proofs.Struck.{every-of}
 use Rattle.ask.proofs.Walks.{keyed-in}
 use Rattle.sound.specs.Parts.{shapeOf}

@@ -23,7 +23,7 @@ use Rattle.model.proofs.Strikes.{slots, strike-slots}
 use Rattle.cells.specs.Slots.{leftAt, rightAt, heightAt, numbersOf, Slot, Keyed}
 use Rattle.cells.specs.Memory.{Rep, In, Frame, Released}
 use Rattle.cells.proofs.Reps.{rep-frame, frame-trans, link-cells}
-use Rattle.rank.proofs.Shapes.{every-in, in-perm}
+use Rattle.build.proofs.Shapes.{every-in, in-perm}
 use Rattle.alter.specs.Strikes.{Strikable, StruckOut}
 use Rattle.alter.specs.declared.strike.Struck.{Struck}
 use Rattle.weigh.specs.Sounds.{Sound}

@@ -1,4 +1,3 @@
 -- What the contracts of this crate cite.
 pub mod Merge
 pub mod Ranking
-pub mod Rebuilding

@@ -1,6 +1,4 @@
-// Slots ranked by the super key, and a subtree rebuilt in place.
-pub mod few;
-pub mod gather;
+// Slots ranked by the super key.
 pub mod merge;
-pub mod rebuild;
 pub mod short;
+pub mod three;

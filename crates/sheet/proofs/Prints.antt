@@ -18,9 +18,9 @@ use Rattle.cells.specs.Memory.{Rep}
 use Rattle.print.specs.Place.{written}
 use Rattle.ask.specs.Standing.{Stands, Standing}
 use Rattle.rank.specs.Ranking.{itemsAt, InTables, Ranked}
-use Rattle.rank.specs.Rebuilding.{Fitting, Gathered}
+use Rattle.build.specs.Rebuilding.{Fitting, Gathered}
 use Rattle.rank.proofs.Merging.{cut-here, ranked-in, rank-items, ranked-slots}
-use Rattle.rank.proofs.Shapes.{items-held}
+use Rattle.build.proofs.Shapes.{items-held}
 use Rattle.sheet.specs.Saving.{textIn, Measured, PrintedWith}
 use Rattle.sheet.specs.declared.saving.Printed.{Printed}
 use Rattle.sheet.proofs.Fills.{rep-tables}

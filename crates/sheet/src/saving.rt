@@ -90,7 +90,7 @@ pub fn print(
     requires { ⌜ Standing (shape .k) (now keys) (now links) root 0 (shape .c) ⌝ }
     ensures { λ r. ⌜ PrintedWith (shape .k) (now (keys .entry)) (now (links .entry)) root (now (room .entry)) (now (room .exit)) r ⌝ }
 {
-    let n = rank::gather::gather(links, root, slots, 0);
+    let n = build::gather::gather(links, root, slots, 0);
     rank::merge::rank(keys, shape, 0, &mut slots[..n], &mut spare[..n]);
     let p = measure(keys, shape, &slots[..n], room.len());
     if p.fits {

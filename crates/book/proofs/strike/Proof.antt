@@ -12,7 +12,7 @@ use Rattle.reply.proofs.answer.refused.Reads as refused-reads
 use Rattle.weigh.proofs.pool.is_there.Reads as is-there-reads
 use Rattle.desk.proofs.spare.strike.Reads as strike-reads
 use Rattle.reply.proofs.gate.pool.Reads as pool-reads
-use Rattle.rank.proofs.gather.clear.Reads as clear-reads
+use Rattle.build.proofs.gather.clear.Reads as clear-reads
 
 pool-requires : tie.Need-pool-requires
 pool-requires c κs = search needs

@@ -14,7 +14,7 @@ use Rattle.reply.proofs.answer.refused.Reads as refused-reads
 use Rattle.reply.proofs.gate.pool.Reads as pool-reads
 use Rattle.weigh.proofs.lines.count_new.Reads as count-new-reads
 use Rattle.desk.proofs.spare.take_in.Reads as take-in-reads
-use Rattle.rank.proofs.gather.clear.Reads as clear-reads
+use Rattle.build.proofs.gather.clear.Reads as clear-reads
 use Rattle.text.proofs.take_apart.Reads as take-apart-reads
 
 pool-requires : tie.Need-pool-requires

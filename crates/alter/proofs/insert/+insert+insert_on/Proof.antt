@@ -15,7 +15,7 @@ use Rattle.alter.proofs.insert.+insert+insert_on.Lts-insert as insert-l
 use Rattle.alter.proofs.insert.insert_on.Reads as insert-on
 use Rattle.alter.proofs.insert.insert_on.Kinds as insert-on-kinds
 use Rattle.alter.proofs.insert.+insert+insert_on.Lts-insert_on as insert-on-lts
-use Rattle.alter.proofs.mend.mend_on.Reads as mend-on-reads
+use Rattle.mend.proofs.upward.mend_on.Reads as mend-on-reads
 use Rattle.seek.proofs.side.child_of.Reads as child-of-reads
 use Rattle.cells.proofs.order.next_cut.Reads as next-cut-reads
 use Rattle.cells.proofs.slot.compare_slots.Reads as compare-slots-reads

@@ -19,7 +19,7 @@ use Rattle.alter.proofs.strike.+replace+strike+strike_on.Lts-strike as 
 use Rattle.alter.proofs.strike.strike_on.Reads as strike-on
 use Rattle.alter.proofs.strike.strike_on.Kinds as strike-on-kinds
 use Rattle.alter.proofs.strike.+replace+strike+strike_on.Lts-strike_on as strike-on-lts
-use Rattle.alter.proofs.mend.mend_on.Reads as mend-on-reads
+use Rattle.mend.proofs.upward.mend_on.Reads as mend-on-reads
 use Rattle.seek.proofs.search.seek.Reads as seek-reads
 use Rattle.seek.proofs.side.child_of.Reads as child-of-reads
 use Rattle.seek.proofs.side.higher.Reads as higher-reads

@@ -12,7 +12,7 @@ use Rattle.reply.proofs.answer.refused_at.Reads as refused-at-reads
 use Rattle.reply.proofs.gate.tray.Reads as tray-reads
 use Rattle.weigh.proofs.judging.first_wrong.Reads as first-wrong-reads
 use Rattle.desk.proofs.spare.work.Reads as work-reads
-use Rattle.rank.proofs.gather.clear.Reads as clear-reads
+use Rattle.build.proofs.gather.clear.Reads as clear-reads
 
 tray-requires : tie.Need-tray-requires
 tray-requires c κs = search needs

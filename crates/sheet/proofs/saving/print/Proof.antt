@@ -7,7 +7,7 @@ use Rattle.sheet.proofs.saving.print.Reads as reads
 use Rattle.sheet.proofs.saving.print.Lts as lts
 use Rattle.sheet.proofs.saving.measure.Reads as measure-reads
 use Rattle.sheet.proofs.saving.write_text.Reads as write-text-reads
-use Rattle.rank.proofs.gather.gather.Reads as gather-reads
+use Rattle.build.proofs.gather.gather.Reads as gather-reads
 use Rattle.rank.proofs.merge.rank.Reads as rank-reads
 
 gather-requires : tie.Need-gather-requires
