@@ -3,12 +3,11 @@ use mathlib.Core.Path.{_≡_}
 use mathlib.Core.Bool.{true}
 use mathlib.Core.List.{List}
 use Prim.Native.Nat.{ℕ, suc}
-use lib.ListN.{take}
 use lib.IntN.{ℤ}
 use Rattle.model.specs.Entry.{Entry, cutField}
 use Rattle.model.specs.Tree.{Item, Tree, node, ordered}
 use Rattle.model.specs.Add.{mend}
-use Rattle.model.specs.Strike.{strike, freed, moved}
+use Rattle.model.specs.Strike.{strike, freed}
 use Rattle.model.proofs.Lists.{Once-each}
 use Rattle.model.proofs.Strikes.{slots}
 use Rattle.cells.specs.Memory.{Rep, Frame}

@@ -2,20 +2,19 @@
 use mathlib.Core.Path.{_≡_, refl, sym, ap, _∙_}
 use mathlib.Core.Bool.{Bool, true, false, _&&_, true≢false, false≢true}
 use mathlib.Core.List.{List, [], _∷_, _++_}
-use Prim.Native.Nat.{ℕ, zero, suc, _+_, _-_, _*_, _^_, _≤_, _<_, Ordering, Ordering·lt, Ordering·eq, Ordering·gt}
+use Prim.Native.Nat.{ℕ, zero, suc, _+_, _-_, _^_, _≤_, _<_, Ordering, Ordering·lt, Ordering·eq, Ordering·gt}
 use native.Mathlib.Omega.{arith}
 use native.Mathlib.Nat.{add-zero}
 use lib.Dec.{isLe}
 use lib.ListN.{length, getD, set}
-use lib.Seq.{sets}
 use lib.IntN.{ℤ, pos}
 use lib.Signed.{mag}
 use mir.Syntax.{w64}
 use mir.Val.{toZ, ofZ}
 use Rattle.model.specs.Number.{order}
-use Rattle.model.specs.Entry.{Entry, cutField, cmp}
+use Rattle.model.specs.Entry.{Entry}
 use Rattle.model.specs.Ask.{holds, inBox}
-use Rattle.model.specs.Tree.{Item, Tree, nil, node, items, slotsOf, all, isLess}
+use Rattle.model.specs.Tree.{Item, Tree, nil, node, items, slotsOf, all}
 use Rattle.model.specs.declared.Bound.{Bound}
 use Rattle.model.specs.declared.Bound.the-variants.{Free, AtLeast, AtMost, Between}
 use Rattle.model.proofs.Orders.{order-eq, order-trans}
@@ -23,7 +22,7 @@ use Rattle.model.proofs.Trees.{both}
 use Rattle.cells.specs.Slots.{leftAt, rightAt, numbersOf, Slot}
 use Rattle.cells.specs.Memory.{Rep}
 use Rattle.cells.proofs.Signs.{back}
-use Rattle.ask.specs.Boxes.{lowerOpen, upperOpen, Weighed, boxed, slotsIn, noting, Noted, Collected}
+use Rattle.ask.specs.Boxes.{lowerOpen, upperOpen, Weighed, boxed, noting, Noted}
 use Rattle.ask.specs.declared.boxes.Sides.{Sides}
 
 pub noted-yes : (w : Bool) (s : ℕ) (before : List ℕ) (at : ℕ) → w ≡ true → Noted w s before (set before at s) at (at + 1)

@@ -2,15 +2,15 @@
 use mathlib.Core.Path.{_≡_, refl, sym, ap, _∙_}
 use mathlib.Core.Bool.{Bool, true, false}
 use mathlib.Core.List.{List, [], _∷_, _++_}
-use Prim.Native.Nat.{ℕ, zero, suc, _+_, _-_, _*_, _≤_, _<_}
+use Prim.Native.Nat.{ℕ, suc, _+_, _-_, _*_, _≤_, _<_}
 use native.Mathlib.Omega.{arith}
-use native.Mathlib.Nat.{add-zero, add-suc, suc-add}
-use lib.ListN.{length, getD, set, length-append}
+use native.Mathlib.Nat.{add-zero}
+use lib.ListN.{length, getD, length-append}
 use lib.Seq.{sets, length-sets}
 use lib.IntN.{ℤ, pos}
-use Rattle.model.specs.Entry.{Entry, cutField, cmp}
+use Rattle.model.specs.Entry.{cmp}
 use Rattle.model.specs.Ask.{inBox}
-use Rattle.model.specs.Tree.{Item, Tree, nil, items, slotsOf, isLess}
+use Rattle.model.specs.Tree.{Item, Tree, items, slotsOf, isLess}
 use Rattle.model.specs.declared.Bound.{Bound}
 use Rattle.model.specs.declared.Bound.the-variants.{Free}
 use Rattle.model.specs.declared.Shape.{Shape}
@@ -20,11 +20,11 @@ use Rattle.cells.specs.Slots.{leftAt, rightAt, numbersOf, Slot, Room}
 use Rattle.cells.proofs.Writes.{sets-append}
 use Rattle.cells.proofs.Slots.{numbers-long}
 use Rattle.ask.specs.Standing.{Stands, Standing}
-use Rattle.ask.specs.Boxes.{lowerOpen, upperOpen, Weighed, boxed, slotsIn, noting, Noted, Collected}
+use Rattle.ask.specs.Boxes.{Weighed, boxed, slotsIn, noting, Noted, Collected}
 use Rattle.ask.specs.declared.boxes.Sides.{Sides}
 use Rattle.ask.proofs.Boxed.{lower-shut, upper-shut, box-field, boxed-append, boxed-one, boxed-few, none-boxed}
 use Rattle.ask.proofs.Cuts.{cut-least}
-use Rattle.ask.proofs.Standing.{top, lefts, rights, stands-left, stands-right, items-top, many, none-stands, keyed-here}
+use Rattle.ask.proofs.Standing.{top, lefts, rights, stands-left, stands-right, items-top, many, none-stands}
 use Rattle.ask.proofs.Walks.{keyed-in}
 
 -- what one of the sides of whatever stands at s leaves behind

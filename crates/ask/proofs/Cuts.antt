@@ -1,8 +1,8 @@
 -- Less under a super key: not greater in the cut field; and what that says of every entry of a side.
-use mathlib.Core.Path.{_≡_, refl, sym, ap, _∙_}
-use mathlib.Core.Bool.{Bool, true, false, false≢true}
-use mathlib.Core.List.{List, [], _∷_, _++_}
-use Prim.Native.Nat.{ℕ, suc, _+_, _-_, _*_, _≤_, _<_, Ordering, Ordering·lt, Ordering·eq, Ordering·gt}
+use mathlib.Core.Path.{_≡_, refl, sym, _∙_}
+use mathlib.Core.Bool.{true}
+use mathlib.Core.List.{_∷_, _++_}
+use Prim.Native.Nat.{ℕ, suc, _+_, _-_, _<_, Ordering, Ordering·lt, Ordering·eq, Ordering·gt}
 use native.Mathlib.Omega.{arith}
 use lib.Dec.{isLe}
 use lib.ListN.{length, take, drop, getD}

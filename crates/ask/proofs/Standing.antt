@@ -1,18 +1,17 @@
 -- A tree that stands at a slot: its entry, its sides one cut deeper, what the order says of a side's cut field, and why a walk ends.
-use mathlib.Core.Path.{_≡_, refl, sym, ap, _∙_}
-use mathlib.Core.Bool.{Bool, true, false, _&&_}
-use mathlib.Core.List.{List, [], _∷_, _++_}
-use Prim.Native.Nat.{ℕ, suc, _+_, _*_, _≤_, _<_, max}
+use mathlib.Core.Path.{_≡_, sym, ap, _∙_}
+use mathlib.Core.Bool.{true, _&&_}
+use mathlib.Core.List.{List, _∷_, _++_}
+use Prim.Native.Nat.{ℕ, suc, _+_, _*_, _≤_, _<_}
 use native.Mathlib.Omega.{arith}
 use lib.ListN.{length, length-append}
 use lib.IntN.{ℤ}
-use Rattle.model.specs.Entry.{Entry, cutField, cmp}
-use Rattle.model.specs.Tree.{Item, Tree, nil, node, height, items, all, isLess, ordered}
+use Rattle.model.specs.Entry.{cmp}
+use Rattle.model.specs.Tree.{Item, Tree, nil, node, items, all, isLess, ordered}
 use Rattle.model.specs.declared.Shape.{Shape}
 use Rattle.model.proofs.Trees.{both}
 use Rattle.cells.specs.Orders.{Deeper}
 use Rattle.cells.specs.Slots.{leftAt, rightAt, tall, numbersOf, Slot, Keyed, Room}
-use Rattle.cells.specs.Memory.{Rep}
 use Rattle.cells.proofs.Slots.{tall-slot}
 use Rattle.cells.proofs.Reps.{Node, open-node, open-nil, tall-rep}
 use Rattle.ask.specs.Standing.{Stands, Standing}

@@ -5,7 +5,6 @@ use mathlib.Core.List.{List}
 use Prim.Native.Nat.{ℕ, zero, suc, _+_, _-_, _≤_, _<_, Ordering, Ordering·lt, Ordering·eq, Ordering·gt}
 use native.Mathlib.Omega.{arith}
 use native.Mathlib.Nat.{mul-le-mul-left, zero-mod}
-use lib.Dec.{leb}
 use lib.ListN.{length, take, getD}
 use lib.Seq.{getD-take, length-take-le}
 use lib.IntN.{ℤ, pos}
@@ -26,7 +25,6 @@ use Rattle.cells.proofs.Orders.{cut-decides}
 use Rattle.cells.proofs.Slots.{numbers-long}
 use Rattle.cells.proofs.Reps.{link-cells}
 use Rattle.ask.specs.Walks.{named}
-use Rattle.ask.specs.declared.walk.Walk.{Walk as End}
 use Rattle.ask.specs.declared.walk.Walk.the-variants.{Found, Gone, Astray}
 
 -- a slot within the capacity lies within both tables

@@ -2,7 +2,6 @@
 use cells::order::Order;
 use model::Entry;
 use model::Shape;
-ghost use mathlib.Core.Path.{_≡_};
 ghost use Prim.Native.Nat.{ℕ, _*_, _≤_, _<_};
 ghost use lib.ListN.{length, take, getD};
 ghost use Rattle.cells.specs.Slots.{Keyed, Room, Slot};

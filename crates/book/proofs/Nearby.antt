@@ -1,9 +1,9 @@
 -- Nearest as it is called: its refusals, and what the search comes to.
 use mathlib.Core.Path.{_≡_, refl, sym, ap, _∙_}
 use mathlib.Core.Bool.{Bool, true, false}
-use mathlib.Core.Option.{Option, none, some}
+use mathlib.Core.Option.{some}
 use mathlib.Core.List.{List, [], _∷_, _++_}
-use Prim.Native.Nat.{ℕ, _≤_, _<_}
+use Prim.Native.Nat.{ℕ, _≤_}
 use native.Mathlib.Omega.{arith}
 use lib.ListN.{length, take}
 use lib.IntN.{ℤ}
@@ -20,7 +20,6 @@ use Rattle.model.specs.declared.Entry.{Entry as Four}
 use Rattle.model.specs.declared.Refusal.{Refusal}
 use Rattle.model.specs.declared.Refusal.the-variants.{Step}
 use Rattle.model.specs.declared.Outcome.the-variants.{Absent}
-use Rattle.model.specs.declared.Answer.{Answer}
 use Rattle.model.proofs.Gates.{gate-on, gate-off, checked-shut, checked-open}
 use Rattle.cells.specs.Slots.{numbersOf, Keyed}
 use Rattle.ask.specs.Nearest.{Searched, BestOf}

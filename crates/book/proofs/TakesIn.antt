@@ -8,7 +8,7 @@ use native.Mathlib.Omega.{arith}
 use lib.Dec.{eqb, ltb}
 use lib.ListN.{length, replicate}
 use lib.IntN.{ℤ}
-use borrow.Author.Tests.{eq-eqb, ne-eqb, lt-ltb, le-ltb}
+use borrow.Author.Tests.{eq-eqb, ne-eqb, ltb-false}
 use Rattle.model.specs.Answer.{Row, gate, lineIn, plain, refused, outward}
 use Rattle.model.specs.Ask.{newOf}
 use Rattle.model.specs.Book.{Book}
@@ -30,7 +30,6 @@ use Rattle.text.specs.declared.Saved.{Saved}
 use Rattle.text.specs.declared.Saved.the-variants.{Broken, Book as Whole}
 use Rattle.desk.specs.Changes.{Became}
 use Rattle.weigh.specs.Saved.{Saves}
-use Rattle.weigh.proofs.Held.{few-of}
 use Rattle.reply.specs.Gates.{told, pooled}
 use Rattle.reply.specs.declared.gate.Gate.{Gate}
 use Rattle.reply.specs.declared.gate.Gate.the-variants.{Open, Shut}
@@ -104,16 +103,13 @@ module _ (h : Head) (ks : List ℤ) (ls sc text : List ℕ) (g : Gate) (is : g �
         past-fields : gate (rows4s h ks ls sc ++ rows) ≡ gate fullRow
         past-fields = past-text ∙ gate-off (not (eqb (fieldsIn p) (h .k))) Mismatch fullRow (ap not (eq-eqb (fieldsIn p) (h .k) (whole .1 .0 ∙ same)))
 
-        few : h .n ≤ h .c
-        few = few-of h ks ls (sound-pool h ks ls sc g is o .good)
+        module _ (z : Bool) (zs : z ≡ ltb (h .c) (h .n + length new)) where
+          pub take-full : z ≡ true → (x : Answer) → x ≡ refused h 0 Full → Leaves (takeIn h ks ls sc text) x ks ls sc
+          take-full t x f = take-refuses Full (past-fields ∙ gate-on (ltb (h .c) (h .n + length new)) Full [] (sym zs ∙ t)) x f
 
-        module _ (m : ℕ) (ms : m ≡ length new) where
-          pub take-full : h .c - h .n < m → (x : Answer) → x ≡ refused h 0 Full → Leaves (takeIn h ks ls sc text) x ks ls sc
-          take-full l x f = take-refuses Full (past-fields ∙ gate-on (ltb (h .c) (h .n + length new)) Full [] (lt-ltb (h .c) (h .n + length new) (let a = few in omega arith))) x f
+          pub take-fits : z ≡ false → h .n + length new ≤ h .c
+          take-fits t = ltb-false (h .c) (h .n + length new) (sym zs ∙ t)
 
-          pub take-fits : m ≤ h .c - h .n → h .n + length new ≤ h .c
-          take-fits l = let a = few in omega arith
-
-          pub take-done : m ≤ h .c - h .n → (r : Head) (ks′ : List ℤ) (ls′ sc′ : List ℕ) (x : Answer) → x ≡ plain Done r → sc′ ≡ replicate (h .c) 0 → Became h ks′ ls′ (addedAll new b) r → Leaves (takeIn h ks ls sc text) x ks′ ls′ sc′
+          pub take-done : z ≡ false → (r : Head) (ks′ : List ℤ) (ls′ sc′ : List ℕ) (x : Answer) → x ≡ plain Done r → sc′ ≡ replicate (h .c) 0 → Became h ks′ ls′ (addedAll new b) r → Leaves (takeIn h ks ls sc text) x ks′ ls′ sc′
           unfolding takeIn
-          take-done l r ks′ ls′ sc′ x xs ss w = leaves-done (takeIn h ks ls sc text) h r (addedAll new b) ks′ ls′ sc′ x (checked-open (rows4s h ks ls sc ++ rows) (λ r. leaving (refused h (brokenAt p) r) ks ls sc) (writing h (addedAll new b)) (past-fields ∙ gate-off (ltb (h .c) (h .n + length new)) Full [] (le-ltb (h .c) (h .n + length new) (take-fits l)))) w xs ss
+          take-done t r ks′ ls′ sc′ x xs ss w = leaves-done (takeIn h ks ls sc text) h r (addedAll new b) ks′ ls′ sc′ x (checked-open (rows4s h ks ls sc ++ rows) (λ r. leaving (refused h (brokenAt p) r) ks ls sc) (writing h (addedAll new b)) (past-fields ∙ gate-off (ltb (h .c) (h .n + length new)) Full [] (sym zs ∙ t))) w xs ss

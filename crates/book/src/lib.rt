@@ -211,7 +211,6 @@ pub fn take_in(
     ensures scratch { λ _. ⌜ now (scratch .exit) ≡ calls.takeIn head (now (keys .entry)) (now (links .entry)) (now (scratch .entry)) (now (text .entry)) .scratch ⌝ }
 {
     let k = head.k;
-    let c = head.c;
     let g = gate::pool(head, keys, links, scratch.len());
     if let Gate::Shut(why) = g {
         return answer::refused(head, why);
@@ -222,8 +221,7 @@ pub fn take_in(
             if fields != k {
                 return answer::refused(head, Refusal::Mismatch);
             }
-            let new = weigh::lines::count_new(head, keys, links, text, lines);
-            if c - head.n < new {
+            if weigh::lines::too_many(head, keys, links, text, lines) {
                 return answer::refused(head, Refusal::Full);
             }
             build::gather::clear(scratch);

@@ -1,7 +1,7 @@
 -- The slots of a tree gathered, and a tree rebuilt over slots in place.
 use mathlib.Core.Path.{_≡_}
 use mathlib.Core.List.{List, _++_}
-use Prim.Native.Nat.{ℕ, suc, _+_, _≤_, _<_}
+use Prim.Native.Nat.{ℕ, _+_, _≤_}
 use lib.ListN.{length, take, drop}
 use lib.IntN.{ℤ}
 use Rattle.model.specs.Entry.{cutField}

@@ -4,7 +4,7 @@ use cells::slot::put_links;
 use model::Shape;
 use rank::merge::behind;
 use rank::three::in_rank;
-ghost use mathlib.Core.List.{List, [], _∷_};
+ghost use mathlib.Core.List.{[], _∷_};
 ghost use Prim.Native.Nat.{_≤_, _<_};
 ghost use lib.ListN.{length};
 ghost use Rattle.cells.specs.Slots.{Room};

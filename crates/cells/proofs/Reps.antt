@@ -2,13 +2,12 @@
 use mathlib.Core.Path.{_≡_, refl, sym, ap, ap₂, subst, _∙_}
 use mathlib.Core.Logic.{_⊎_, inl, inr, ⊎-elim}
 use mathlib.Core.List.{List, [], _∷_, _++_}
-use Prim.Native.Nat.{ℕ, zero, suc, _+_, _-_, _*_, _≤_, _<_, max}
+use Prim.Native.Nat.{ℕ, zero, suc, _+_, _-_, _*_, _≤_, max}
 use native.Mathlib.Omega.{arith}
 use native.Mathlib.Numerals.{sub-one}
-use lib.ListN.{length, getD, take, drop}
+use lib.ListN.{length}
 use lib.IntN.{ℤ}
-use Rattle.model.specs.Entry.{Entry}
-use Rattle.model.specs.Tree.{Item, Tree, nil, node, height, rootSlot, items, slotsOf}
+use Rattle.model.specs.Tree.{Item, Tree, nil, node, height, rootSlot, items}
 use Rattle.model.specs.Book.{Cell}
 use Rattle.model.specs.Pool.{cellOf}
 use Rattle.model.proofs.Crowd.{InPool}

@@ -1,8 +1,7 @@
 -- Signed numbers: what the machine's tests and bits say of them, at both ends of the range as anywhere.
 use mathlib.Core.Path.{_≡_, refl, sym, ap, _∙_}
 use mathlib.Core.Bool.{Bool, true, false, not, true≢false}
-use Prim.Native.Nat.{ℕ, _^_, _<_, Ordering, Ordering·lt, Ordering·eq, Ordering·gt}
-use native.Mathlib.Omega.{arith}
+use Prim.Native.Nat.{_^_, _<_, Ordering, Ordering·lt, Ordering·eq, Ordering·gt}
 use lib.Dec.{eqb}
 use lib.IntN.{ℤ}
 use lib.Signed.{mag, ltZ}

@@ -1,18 +1,18 @@
 -- The links and the numbers of a slot, read and written.
 use mathlib.Core.Path.{_≡_, refl, sym, ap, _∙_}
-use mathlib.Core.Logic.{_⊎_, inl, inr, _≢_}
+use mathlib.Core.Logic.{_⊎_, inl, inr}
 use mathlib.Core.Bool.{Bool, true, false, cond}
-use mathlib.Core.List.{List, [], _∷_, _++_}
+use mathlib.Core.List.{List}
 use Prim.Native.Nat.{ℕ, zero, suc, _+_, _-_, _*_, _≤_, _<_}
 use native.Mathlib.Decide.{decLe}
 use native.Mathlib.Nat.{mul-suc, mul-le-mul-left, mul-le-mul-right}
 use native.Mathlib.Numerals.{sub-one}
 use native.Mathlib.Omega.{arith}
-use lib.ListN.{length, getD, set, take, drop, length-set, length-take, length-drop}
+use lib.ListN.{length, getD, set, take, drop, length-set, length-drop}
 use lib.Seq.{getD-set-same, getD-set-other, getD-take, getD-drop, length-take-le}
 use lib.IntN.{ℤ, pos}
-use Rattle.model.specs.Entry.{Entry, cutField, cmp}
-use Rattle.cells.specs.Orders.{named, Compared}
+use Rattle.model.specs.Entry.{Entry}
+use Rattle.cells.specs.Orders.{Compared}
 use Rattle.cells.specs.Slots.{leftAt, rightAt, heightAt, tall, addressOf, numbersOf, Slot, Keyed, SlotsCompared, EntryCompared}
 use Rattle.cells.specs.Memory.{Put}
 use Rattle.cells.specs.declared.order.Order.{Order}

@@ -4,16 +4,16 @@ use mathlib.Core.Logic.{_⊎_, inl, inr}
 use mathlib.Core.List.{List, [], _∷_, _++_, append-assoc}
 use Prim.Native.Nat.{ℕ, zero, suc, _+_, _-_, _*_, _≤_, _<_}
 use native.Mathlib.Decide.{decLe}
-use native.Mathlib.Nat.{mul-le-mul-left, add-suc, suc-add, add-zero, add-assoc}
+use native.Mathlib.Nat.{mul-le-mul-left, add-suc, suc-add, add-zero}
 use native.Mathlib.Numerals.{add-one}
 use native.Mathlib.Omega.{arith}
-use lib.ListN.{length, getD, set, take, drop, replicate, length-append, length-take, length-drop}
+use lib.ListN.{length, getD, set, take, drop, replicate, length-take, length-drop}
 use lib.Seq.{sets, sets-eq, length-sets, take-suc, take-at, drop-at, set-at, getD-take, getD-drop, getD-set-other, ext-getD, length-take-le}
 use lib.IntN.{ℤ, pos}
 use Rattle.model.specs.Entry.{Entry}
 use Rattle.cells.specs.Slots.{Slot, leftAt, addressOf, numbersOf, Keyed}
-use Rattle.cells.specs.Memory.{Frame, Same, Put, Wrote, Released, Claimed}
-use Rattle.cells.proofs.Slots.{slot-end, numbers-long}
+use Rattle.cells.specs.Memory.{Frame, Put, Wrote, Released, Claimed}
+use Rattle.cells.proofs.Slots.{slot-end}
 
 pub sets-append : {A : Type 0} (l : List A) (i : ℕ) (a b : List A) → sets l i (a ++ b) ≡ sets (sets l i a) (i + length a) b
 sets-append l i [] b = rw add-zero

@@ -2,12 +2,12 @@
 use mathlib.Core.Path.{_≡_}
 use mathlib.Core.Logic.{_⊎_}
 use mathlib.Core.List.{List, [], _∷_}
-use Prim.Native.Nat.{ℕ, suc, _≤_}
+use Prim.Native.Nat.{ℕ, _≤_}
 use lib.ListN.{length, replicate}
 use lib.Seq.{sets}
 use lib.IntN.{ℤ, pos}
 use Rattle.model.specs.Entry.{Entry}
-use Rattle.model.specs.Tree.{Item, Tree, nil, node, height}
+use Rattle.model.specs.Tree.{Tree, nil, node, height}
 use Rattle.cells.specs.Slots.{addressOf, leftAt, rightAt, heightAt, numbersOf, Slot}
 
 -- the tables ks and ls hold the tree u at s

@@ -1,8 +1,8 @@
 -- One slot of lent memory: its three links and its K numbers.
 use mathlib.Core.Path.{_≡_}
-use mathlib.Core.List.{List, []}
-use Prim.Native.Nat.{ℕ, zero, suc, _+_, _-_, _*_, _≤_, _<_}
-use lib.ListN.{length, getD, take, drop}
+use mathlib.Core.List.{List}
+use Prim.Native.Nat.{ℕ, zero, suc, _+_, _-_, _*_, _≤_}
+use lib.ListN.{getD, take, drop}
 use lib.IntN.{ℤ}
 use Rattle.model.specs.Entry.{Entry, cutField, cmp}
 use Rattle.model.specs.declared.Shape.{Shape}

@@ -4,11 +4,11 @@ use model::Entry;
 use model::Shape;
 ghost use mathlib.Core.Path.{_≡_};
 ghost use mathlib.Core.Bool.{cond};
-ghost use Prim.Native.Nat.{suc, _*_, _≤_, _<_};
-ghost use lib.ListN.{length, getD, take, replicate};
+ghost use Prim.Native.Nat.{_*_, _≤_, _<_};
+ghost use lib.ListN.{length, getD, take};
 ghost use lib.IntN.{pos};
 ghost use Rattle.model.specs.Answer.{outward};
-ghost use Rattle.cells.specs.Slots.{leftAt, rightAt, heightAt, tall, addressOf, numbersOf, Slot, Keyed, SlotsCompared, EntryCompared};
+ghost use Rattle.cells.specs.Slots.{leftAt, rightAt, tall, addressOf, numbersOf, Slot, Keyed, SlotsCompared, EntryCompared};
 ghost use Rattle.cells.specs.Memory.{Put, Wrote, Released, Claimed};
 
 pub fn left_of(links: &[usize], s: usize) -> usize

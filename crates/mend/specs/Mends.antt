@@ -1,15 +1,15 @@
 -- A tree in memory mended: at every depth that is cut at field c, and no other slot changes.
 use mathlib.Core.Path.{_≡_}
 use mathlib.Core.List.{List, _∷_, _++_}
-use Prim.Native.Nat.{ℕ, suc}
+use Prim.Native.Nat.{ℕ}
 use lib.ListN.{length}
 use lib.IntN.{ℤ}
 use Rattle.model.specs.Entry.{cutField}
-use Rattle.model.specs.Tree.{Item, Tree, nil, node}
-use Rattle.model.specs.Add.{mend, insert}
+use Rattle.model.specs.Tree.{Tree}
+use Rattle.model.specs.Add.{mend}
 use Rattle.model.proofs.Lists.{Once-each}
 use Rattle.model.proofs.Strikes.{slots}
-use Rattle.cells.specs.Slots.{numbersOf, Slot}
+use Rattle.cells.specs.Slots.{Slot}
 use Rattle.cells.specs.Memory.{Rep, Frame}
 use Rattle.seek.specs.Sides.{childAt, otherOf, onSide, itemIn}
 use Rattle.seek.specs.declared.side.Side.{Side}

@@ -4,7 +4,7 @@ use cells::slot::left_of;
 use cells::slot::right_of;
 use rank::three::Three;
 ghost use mathlib.Core.Path.{_≡_};
-ghost use mathlib.Core.List.{List, [], _∷_};
+ghost use mathlib.Core.List.{[], _∷_};
 ghost use lib.ListN.{length};
 ghost use Rattle.cells.specs.Slots.{Slot};
 ghost use Rattle.mend.specs.Listings.{Lying, Listed};

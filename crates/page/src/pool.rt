@@ -3,7 +3,6 @@ use crate::tree::put_tree;
 use crate::word::put_number;
 use model::Head;
 use model::Shape;
-ghost use mathlib.Core.Path.{_≡_};
 ghost use Prim.Native.Nat.{_+_, _*_, _≤_};
 ghost use lib.ListN.{length};
 ghost use Rattle.model.specs.Pool.{bookOf};

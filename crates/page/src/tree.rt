@@ -2,7 +2,6 @@
 use crate::word::put_cut;
 use crate::word::put_number;
 use model::Shape;
-ghost use mathlib.Core.Path.{_≡_};
 ghost use Prim.Native.Nat.{_+_, _-_, _≤_};
 ghost use lib.ListN.{length};
 ghost use Rattle.cells.specs.Slots.{Room};

@@ -1,5 +1,4 @@
 // The pieces of a printed line, each written from a place on; each function returns the place behind what it wrote.
-ghost use mathlib.Core.Path.{_≡_};
 ghost use mathlib.Core.List.{_∷_, [], _++_};
 ghost use Prim.Native.Nat.{_+_, _<_, _≤_};
 ghost use lib.ListN.{length};

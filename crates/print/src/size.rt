@@ -1,6 +1,6 @@
 // How many bytes each print has.
 ghost use mathlib.Core.Path.{_≡_};
-ghost use Prim.Native.Nat.{ℕ, _+_, _≤_};
+ghost use Prim.Native.Nat.{_+_, _≤_};
 ghost use lib.ListN.{length};
 ghost use Rattle.model.specs.Text.{decimal, signed, pairs, title};
 ghost use Rattle.print.specs.Sign.{magnitudeOf};

@@ -15,7 +15,6 @@ use Rattle.model.specs.Book.{upFrom, fresh, headOf}
 use Rattle.model.specs.declared.Head.{Head}
 use Rattle.model.specs.declared.Outcome.the-variants.{Refused}
 use Rattle.model.specs.Gate.{rows3, sized}
-use Rattle.model.specs.declared.Shape.{Shape}
 use Rattle.model.specs.declared.Refusal.{Refusal}
 use Rattle.model.specs.declared.Refusal.the-variants.{Fields, Capacity, Lengths, Unsound, Present, Missing, Full, Text, Mismatch, Step, Tray}
 use Rattle.model.specs.declared.Refusal as refusals

@@ -1,7 +1,6 @@
 // Whether the free slots of a pool are right: a chain through left, each slot cleared, that ends at 0 after as many as it should.
 use model::Shape;
 ghost use mathlib.Core.Path.{_≡_};
-ghost use Prim.Native.Nat.{_≤_};
 ghost use lib.ListN.{length};
 ghost use lib.IntN.{pos};
 ghost use Rattle.model.specs.Pool.{zeros};

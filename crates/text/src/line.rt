@@ -3,7 +3,6 @@ use crate::Read;
 use crate::number::Number;
 use crate::number::read_number;
 use print::end_byte;
-ghost use mathlib.Core.Path.{_≡_};
 ghost use mathlib.Core.List.{List};
 ghost use Prim.Native.Nat.{ℕ, _+_, _-_, _≤_};
 ghost use lib.ListN.{length, drop};

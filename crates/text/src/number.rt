@@ -1,6 +1,6 @@
 // Reading a number from a place on, strictly from left to right.
 ghost use mathlib.Core.Path.{_≡_};
-ghost use Prim.Native.Nat.{ℕ, _+_, _-_, _≤_};
+ghost use Prim.Native.Nat.{_+_, _-_, _≤_};
 ghost use lib.ListN.{length, drop};
 ghost use Rattle.model.specs.Text.{minus};
 ghost use Rattle.text.specs.Strict.{grown, capped, decimalAt, numberAt};

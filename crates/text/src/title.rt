@@ -3,7 +3,7 @@ use crate::number::Decimal;
 use crate::number::read_decimal;
 ghost use mathlib.Core.Path.{_≡_};
 ghost use mathlib.Core.Bool.{true};
-ghost use Prim.Native.Nat.{ℕ, _+_, _≤_};
+ghost use Prim.Native.Nat.{_+_, _≤_};
 ghost use lib.ListN.{length, drop};
 ghost use Rattle.text.specs.Strict.{wordAt, afterAt, titleAt, titleFits};
 ghost use Rattle.text.specs.Told.{passed, Tells};

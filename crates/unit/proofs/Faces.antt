@@ -1,7 +1,6 @@
 -- What making a box the book's own needs: a bound from its kind and ends, four bounds from four limits.
 use mathlib.Core.Path.{_≡_}
 use mathlib.Core.List.{List, [], _∷_}
-use Prim.Native.Nat.{ℕ}
 use native.Mathlib.Omega.{arith}
 use lib.ListN.{length, getD}
 use mir.Syntax.{w64}

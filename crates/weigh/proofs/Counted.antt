@@ -2,10 +2,12 @@
 use mathlib.Core.Path.{_≡_, refl, sym, ap, _∙_}
 use mathlib.Core.Bool.{Bool, true, false}
 use mathlib.Core.List.{List, [], _∷_}
-use Prim.Native.Nat.{ℕ, suc, _+_, _≤_, _<_}
+use Prim.Native.Nat.{ℕ, suc, _+_, _-_, _≤_, _<_}
 use native.Mathlib.Omega.{arith}
+use lib.Dec.{ltb}
 use lib.ListN.{length, getD, drop}
 use lib.IntN.{ℤ}
+use borrow.Author.Tests.{le-ltb, lt-ltb}
 use Rattle.model.specs.Answer.{inward}
 use Rattle.model.specs.Ask.{has, newOf}
 use Rattle.model.specs.Book.{Book}
@@ -70,3 +72,17 @@ module _ (held : List Entry) (text : List ℕ) (K n : ℕ) (s : Saves text K n) 
 
       pub counts-low : new + m ≤ 4096
       counts-low = let a = adds-up in let b = new-few held (entriesIn (parse text)) in let c = s .many in let d = few-lines text K n s in omega arith
+
+-- what is new beside N entries in a pool of C
+module _ (held : List Entry) (text : List ℕ) (K n C N : ℕ) (s : Saves text K n) (few : N ≤ C) where
+  abbrev new : ℕ
+  new = length (newOf held (entriesIn (parse text)))
+
+  pub lines-fit : n ≤ C - N → false ≡ ltb C (N + length (newOf held (entriesIn (parse text))))
+  lines-fit l = sym (le-ltb C (N + new) (let a = new-few held (entriesIn (parse text)) in let b = s .many in omega arith))
+
+  pub new-over : (m : ℕ) → m ≡ length (newOf held (entriesIn (parse text))) → C - N < m → true ≡ ltb C (N + length (newOf held (entriesIn (parse text))))
+  new-over m e l = sym (lt-ltb C (N + new) (omega arith))
+
+  pub new-fit : (m : ℕ) → m ≡ length (newOf held (entriesIn (parse text))) → m ≤ C - N → false ≡ ltb C (N + length (newOf held (entriesIn (parse text))))
+  new-fit m e l = sym (le-ltb C (N + new) (omega arith))

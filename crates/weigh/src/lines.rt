@@ -1,9 +1,11 @@
-// The entries of a text that is known to be a saved book: how many of them are new.
+// The entries of a text that is known to be a saved book: how many of them are new, and whether they have room.
 use crate::pool::is_there;
 use model::Entry;
 use model::Head;
 ghost use mathlib.Core.Path.{_≡_};
 ghost use mathlib.Core.List.{_∷_, []};
+ghost use Prim.Native.Nat.{_+_};
+ghost use lib.Dec.{ltb};
 ghost use lib.ListN.{length};
 ghost use Rattle.model.specs.Answer.{inward};
 ghost use Rattle.model.specs.Ask.{newOf};
@@ -41,4 +43,19 @@ pub fn count_new(head: Head, keys: &[i64], links: &[usize], text: &[u8], lines: 
         i += 1;
     }
     new
+}
+
+// Whether more of the text's entries are new than slots are free. They are counted only where not all of its lines have room.
+pub fn too_many(head: Head, keys: &[i64], links: &[usize], text: &[u8], lines: usize) -> bool
+    requires { ⌜ Sound head (now keys) (now links) × Saves (now text) (head .k) lines ⌝ }
+    ensures { λ r. ⌜ r ≡ ltb (head .c) (head .n + length (newOf (listing (bookOf head (now (keys .entry)) (now (links .entry)) .tree)) (entriesIn (parse (now (text .entry)))))) ⌝ }
+{
+    let free = head.c - head.n;
+    if lines <= free {
+        return false;
+    }
+    if free < count_new(head, keys, links, text, lines) {
+        return true;
+    }
+    false
 }

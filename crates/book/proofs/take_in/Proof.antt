@@ -1,21 +1,10 @@
 use mathlib.Core.Path.{ap, _∙_}
 use lib.ListN.{replicate}
-use Rattle.weigh.proofs.Held.{few-of}
 use Rattle.book.proofs.Written.{sound-pool, scratch-long}
 use Rattle.book.proofs.TakesIn.{take-shut, take-broken, take-mismatch, take-saves, take-full, take-fits, take-done}
 use borrow.Author.Needs.{needs}
 use Rattle.book.proofs.take_in.Statement.{statement}
 use Rattle.book.proofs.take_in.Tie as tie
-use Rattle.book.proofs.take_in.Reads as reads
-use Rattle.book.proofs.take_in.Lts as lts
-use Rattle.reply.proofs.answer.broken.Reads as broken-reads
-use Rattle.reply.proofs.answer.plain.Reads as plain-reads
-use Rattle.reply.proofs.answer.refused.Reads as refused-reads
-use Rattle.reply.proofs.gate.pool.Reads as pool-reads
-use Rattle.weigh.proofs.lines.count_new.Reads as count-new-reads
-use Rattle.desk.proofs.spare.take_in.Reads as take-in-reads
-use Rattle.build.proofs.gather.clear.Reads as clear-reads
-use Rattle.text.proofs.take_apart.Reads as take-apart-reads
 
 pool-requires : tie.Need-pool-requires
 pool-requires c κs = search needs
@@ -62,11 +51,8 @@ same-length-4 c = search needs
 returns-2 : tie.Need-returns-2
 returns-2 c = let s = c .before .before .before .before .before .before .before .before .before .before .before .before .before .before in let g = c .before .before .before .before .before .before .before .before .pool in let o = c .before .before .before .before .before .before .enum-told .given .1 in let t = c .before .before .before .before .before .take-apart in let f = c .before .before .before .fields .given in take-mismatch (s .args .head) (s .args .keys .now) (s .args .links .now) (s .args .scratch .now) (s .args .text .now) (g .result) (g .ensures) o (t .result) (t .ensures) (f .0 .0) (f .0 .1 .0) (f .1) (c .before .if1 .taken) (c .refused2 .result) (c .refused2 .ensures)
 
-count-new-requires : tie.Need-count-new-requires
-count-new-requires c κs = let s = c .before .before .before .before .before .before .before .before .before .before .before .before .before .before .before in let g = c .before .before .before .before .before .before .before .before .before .pool in let o = c .before .before .before .before .before .before .before .enum-told .given .1 in let t = c .before .before .before .before .before .before .take-apart in let f = c .before .before .before .before .fields .given in let e = c .before .before .if1 .left in (sound-pool (s .args .head) (s .args .keys .now) (s .args .links .now) (s .args .scratch .now) (g .result) (g .ensures) o, take-saves (s .args .head) (s .args .keys .now) (s .args .links .now) (s .args .scratch .now) (s .args .text .now) (g .result) (g .ensures) o (t .result) (t .ensures) (f .0 .0) (f .0 .1 .0) (f .1) e)
-
-sub-if2 : tie.Need-sub-if2
-sub-if2 c = let s = c .before .before .before .before .before .before .before .before .before .before .before .before .before .before .before .before .before in let g = c .before .before .before .before .before .before .before .before .before .before .before .pool in let o = c .before .before .before .before .before .before .before .before .before .enum-told .given .1 in let t = c .before .before .before .before .before .before .before .before .take-apart in let f = c .before .before .before .before .before .before .fields .given in let e = c .before .before .before .before .if1 .left in let m = c .before .count-new in few-of (s .args .head) (s .args .keys .now) (s .args .links .now) (sound-pool (s .args .head) (s .args .keys .now) (s .args .links .now) (s .args .scratch .now) (g .result) (g .ensures) o .good)
+too-many-requires : tie.Need-too-many-requires
+too-many-requires c κs = let s = c .before .before .before .before .before .before .before .before .before .before .before .before .before .before .before in let g = c .before .before .before .before .before .before .before .before .before .pool in let o = c .before .before .before .before .before .before .before .enum-told .given .1 in let t = c .before .before .before .before .before .before .take-apart in let f = c .before .before .before .before .fields .given in let e = c .before .before .if1 .left in (sound-pool (s .args .head) (s .args .keys .now) (s .args .links .now) (s .args .scratch .now) (g .result) (g .ensures) o, take-saves (s .args .head) (s .args .keys .now) (s .args .links .now) (s .args .scratch .now) (s .args .text .now) (g .result) (g .ensures) o (t .result) (t .ensures) (f .0 .0) (f .0 .1 .0) (f .1) e)
 
 refused-requires-3 : tie.Need-refused-requires-3
 refused-requires-3 c κs = search needs
@@ -78,13 +64,13 @@ same-length-6 : tie.Need-same-length-6
 same-length-6 c = search needs
 
 returns-3 : tie.Need-returns-3
-returns-3 c = let s = c .before .before .before .before .before .before .before .before .before .before .before .before .before .before .before .before .before .before .before in let g = c .before .before .before .before .before .before .before .before .before .before .before .before .before .pool in let o = c .before .before .before .before .before .before .before .before .before .before .before .enum-told .given .1 in let t = c .before .before .before .before .before .before .before .before .before .before .take-apart in let f = c .before .before .before .before .before .before .before .before .fields .given in let e = c .before .before .before .before .before .before .if1 .left in let m = c .before .before .before .count-new in take-full (s .args .head) (s .args .keys .now) (s .args .links .now) (s .args .scratch .now) (s .args .text .now) (g .result) (g .ensures) o (t .result) (t .ensures) (f .0 .0) (f .0 .1 .0) (f .1) e (m .result) (m .ensures) (c .before .if2 .taken) (c .refused3 .result) (c .refused3 .ensures)
+returns-3 c = let s = c .before .before .before .before .before .before .before .before .before .before .before .before .before .before .before .before .before .before in let g = c .before .before .before .before .before .before .before .before .before .before .before .before .pool in let o = c .before .before .before .before .before .before .before .before .before .before .enum-told .given .1 in let t = c .before .before .before .before .before .before .before .before .before .take-apart in let f = c .before .before .before .before .before .before .before .fields .given in let e = c .before .before .before .before .before .if1 .left in let m = c .before .before .too-many in take-full (s .args .head) (s .args .keys .now) (s .args .links .now) (s .args .scratch .now) (s .args .text .now) (g .result) (g .ensures) o (t .result) (t .ensures) (f .0 .0) (f .0 .1 .0) (f .1) e (m .result) (m .ensures) (c .before .if2 .taken) (c .refused3 .result) (c .refused3 .ensures)
 
 clear-requires : tie.Need-clear-requires
 clear-requires c κs = search needs
 
 take-in-requires : tie.Need-take-in-requires
-take-in-requires c κs = let s = c .before .before .before .before .before .before .before .before .before .before .before .before .before .before .before .before .before .before .before .before .before .before .before .before .before in let g = c .before .before .before .before .before .before .before .before .before .before .before .before .before .before .before .before .before .before .before .pool in let o = c .before .before .before .before .before .before .before .before .before .before .before .before .before .before .before .before .before .enum-told .given .1 in let t = c .before .before .before .before .before .before .before .before .before .before .before .before .before .before .before .before .take-apart in let f = c .before .before .before .before .before .before .before .before .before .before .before .before .before .before .fields .given in let e = c .before .before .before .before .before .before .before .before .before .before .before .before .if1 .left in let m = c .before .before .before .before .before .before .before .before .before .count-new in ((sound-pool (s .args .head) (s .args .keys .now) (s .args .links .now) (s .args .scratch .now) (g .result) (g .ensures) o, take-saves (s .args .head) (s .args .keys .now) (s .args .links .now) (s .args .scratch .now) (s .args .text .now) (g .result) (g .ensures) o (t .result) (t .ensures) (f .0 .0) (f .0 .1 .0) (f .1) e), (take-fits (s .args .head) (s .args .keys .now) (s .args .links .now) (s .args .scratch .now) (s .args .text .now) (g .result) (g .ensures) o (t .result) (t .ensures) (f .0 .0) (f .0 .1 .0) (f .1) e (m .result) (m .ensures) (c .before .before .before .before .before .before .before .if2 .left), c .before .before .before .before .before .clear .ensures ∙ ap (λ n. replicate n 0) (scratch-long (s .args .head) (s .args .keys .now) (s .args .links .now) (s .args .scratch .now) (g .result) (g .ensures) o)))
+take-in-requires c κs = let s = c .before .before .before .before .before .before .before .before .before .before .before .before .before .before .before .before .before .before .before .before .before .before .before .before in let g = c .before .before .before .before .before .before .before .before .before .before .before .before .before .before .before .before .before .before .pool in let o = c .before .before .before .before .before .before .before .before .before .before .before .before .before .before .before .before .enum-told .given .1 in let t = c .before .before .before .before .before .before .before .before .before .before .before .before .before .before .before .take-apart in let f = c .before .before .before .before .before .before .before .before .before .before .before .before .before .fields .given in let e = c .before .before .before .before .before .before .before .before .before .before .before .if1 .left in let m = c .before .before .before .before .before .before .before .before .too-many in ((sound-pool (s .args .head) (s .args .keys .now) (s .args .links .now) (s .args .scratch .now) (g .result) (g .ensures) o, take-saves (s .args .head) (s .args .keys .now) (s .args .links .now) (s .args .scratch .now) (s .args .text .now) (g .result) (g .ensures) o (t .result) (t .ensures) (f .0 .0) (f .0 .1 .0) (f .1) e), (take-fits (s .args .head) (s .args .keys .now) (s .args .links .now) (s .args .scratch .now) (s .args .text .now) (g .result) (g .ensures) o (t .result) (t .ensures) (f .0 .0) (f .0 .1 .0) (f .1) e (m .result) (m .ensures) (c .before .before .before .before .before .before .before .if2 .left), c .before .before .before .before .before .clear .ensures ∙ ap (λ n. replicate n 0) (scratch-long (s .args .head) (s .args .keys .now) (s .args .links .now) (s .args .scratch .now) (g .result) (g .ensures) o)))
 
 plain-requires : tie.Need-plain-requires
 plain-requires c κs = search needs
@@ -108,7 +94,7 @@ same-length-11 : tie.Need-same-length-11
 same-length-11 c = search needs
 
 returns-5 : tie.Need-returns-5
-returns-5 c = let s = c .before .before .before .before .before .before .before .before .before .before .before .before .before .before .before .before .before .before .before .before .before .before .before .before .before .before .before .before .before .before .before .before in let g = c .before .before .before .before .before .before .before .before .before .before .before .before .before .before .before .before .before .before .before .before .before .before .before .before .before .before .pool in let o = c .before .before .before .before .before .before .before .before .before .before .before .before .before .before .before .before .before .before .before .before .before .before .before .before .enum-told .given .1 in let t = c .before .before .before .before .before .before .before .before .before .before .before .before .before .before .before .before .before .before .before .before .before .before .before .take-apart in let f = c .before .before .before .before .before .before .before .before .before .before .before .before .before .before .before .before .before .before .before .before .before .fields .given in let e = c .before .before .before .before .before .before .before .before .before .before .before .before .before .before .before .before .before .before .before .if1 .left in let m = c .before .before .before .before .before .before .before .before .before .before .before .before .before .before .before .before .count-new in let y = c .before .before .before .before .before .before .take-in in take-done (s .args .head) (s .args .keys .now) (s .args .links .now) (s .args .scratch .now) (s .args .text .now) (g .result) (g .ensures) o (t .result) (t .ensures) (f .0 .0) (f .0 .1 .0) (f .1) e (m .result) (m .ensures) (c .before .before .before .before .before .before .before .before .before .before .before .before .before .before .if2 .left) (y .result) (y .last .1 .0) (y .last .1 .1 .0) (y .last .1 .1 .1 .0) (c .plain .result) (c .plain .ensures) (y .ensures .1) (y .ensures .0)
+returns-5 c = let s = c .before .before .before .before .before .before .before .before .before .before .before .before .before .before .before .before .before .before .before .before .before .before .before .before .before .before .before .before .before .before .before in let g = c .before .before .before .before .before .before .before .before .before .before .before .before .before .before .before .before .before .before .before .before .before .before .before .before .before .pool in let o = c .before .before .before .before .before .before .before .before .before .before .before .before .before .before .before .before .before .before .before .before .before .before .before .enum-told .given .1 in let t = c .before .before .before .before .before .before .before .before .before .before .before .before .before .before .before .before .before .before .before .before .before .before .take-apart in let f = c .before .before .before .before .before .before .before .before .before .before .before .before .before .before .before .before .before .before .before .before .fields .given in let e = c .before .before .before .before .before .before .before .before .before .before .before .before .before .before .before .before .before .before .if1 .left in let m = c .before .before .before .before .before .before .before .before .before .before .before .before .before .before .before .too-many in let y = c .before .before .before .before .before .before .take-in in take-done (s .args .head) (s .args .keys .now) (s .args .links .now) (s .args .scratch .now) (s .args .text .now) (g .result) (g .ensures) o (t .result) (t .ensures) (f .0 .0) (f .0 .1 .0) (f .1) e (m .result) (m .ensures) (c .before .before .before .before .before .before .before .before .before .before .before .before .before .before .if2 .left) (y .result) (y .last .1 .0) (y .last .1 .1 .0) (y .last .1 .1 .1 .0) (c .plain .result) (c .plain .ensures) (y .ensures .1) (y .ensures .0)
 
 pub take-in-spec : {M : Type 1} → statement M
 take-in-spec =
@@ -129,8 +115,7 @@ take-in-spec =
     same-length-3
     same-length-4
     returns-2
-    count-new-requires
-    sub-if2
+    too-many-requires
     refused-requires-3
     same-length-5
     same-length-6

@@ -1,4 +1,4 @@
-use mathlib.Core.Path.{_≡_, sym, _∙_, ap}
+use mathlib.Core.Path.{sym, _∙_, ap}
 use Rattle.model.specs.declared.Bound.{Bound}
 use Rattle.gauge.proofs.Boxes.{le-back}
 use Rattle.ask.specs.Boxes.{upperOpen}

@@ -1,6 +1,6 @@
 use native.Mathlib.Omega.{arith}
 use lib.ListN.{length}
-use Rattle.cells.proofs.Slots.{address-is-low, address-ends, parts-ready, parts-compared}
+use Rattle.cells.proofs.Slots.{address-is-low, address-ends, parts-compared}
 use borrow.Author.Needs.{needs}
 use Rattle.cells.proofs.slot.compare_slots.Statement.{statement}
 use Rattle.cells.proofs.slot.compare_slots.Tie as tie

@@ -1,4 +1,4 @@
-use mathlib.Core.Path.{_≡_, sym, _∙_, ap}
+use mathlib.Core.Path.{sym, _∙_, ap}
 use lib.Dec.{isLe}
 use Rattle.model.specs.Number.{order}
 use Rattle.model.specs.Ask.{holds}

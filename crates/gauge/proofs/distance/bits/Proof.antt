@@ -1,5 +1,4 @@
 use native.Mathlib.Omega.{arith}
-use mathlib.Core.Path.{_≡_, sym, _∙_, ap}
 use Rattle.gauge.proofs.Differences.{up, over, cast-asks, cast-is}
 use Rattle.gauge.proofs.distance.bits.Statement.{statement}
 use Rattle.gauge.proofs.distance.bits.Tie as tie

@@ -1,5 +1,4 @@
-use native.Mathlib.Omega.{arith}
-use mathlib.Core.Path.{_≡_, sym, _∙_, ap}
+use mathlib.Core.Path.{_∙_}
 use Rattle.cells.proofs.Signs.{lt-plain}
 use Rattle.gauge.proofs.Differences.{from-bits, diff-sym, lt-le, not-lt}
 use borrow.Author.Needs.{needs}

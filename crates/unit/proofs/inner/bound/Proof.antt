@@ -1,4 +1,3 @@
-use borrow.Author.Needs.{needs}
 use Rattle.unit.proofs.Faces.{free, at-least, at-most, between}
 use Rattle.unit.proofs.inner.bound.Statement.{statement}
 use Rattle.unit.proofs.inner.bound.Tie as tie
