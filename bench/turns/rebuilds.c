@@ -27,6 +27,17 @@ static void tell(const char *what, int order) {
     rebuilds = threes = above = longest = 0;
 }
 
+// How many entries the adds of n rising entries rebuild in all.
+static double rebuilt(size_t k, size_t n) {
+    pool = new_pool(k, n);
+    make_entries(RISING, k, n, entries);
+    fill_pool(&pool, entries, n);
+    double all = 3.0 * threes + above;
+    rebuilds = threes = above = longest = 0;
+    drop_pool(&pool);
+    return all;
+}
+
 int main(void) {
     for (int order = SHUFFLED; order <= RISING; order++) {
         pool = new_pool(4, MOST);
@@ -40,5 +51,6 @@ int main(void) {
         tell("then 4,096 strikes and 2,048 adds, mixed", order);
         drop_pool(&pool);
     }
+    for (size_t k = 1; k <= 4; k++) printf("rising adds, fields %zu: entries rebuilt, 4,096 adds / 512 adds: %.1f\n", k, rebuilt(k, MOST) / rebuilt(k, 512));
     return 0;
 }
