@@ -4,19 +4,17 @@ use mathlib.Core.Logic.{_⊎_, inl, inr, ⊎-elim}
 use mathlib.Core.Bool.{Bool, true, false, _&&_}
 use mathlib.Core.List.{List, [], _∷_}
 use Prim.Native.Nat.{ℕ, suc, _*_, _≤_, _<_, Ordering, Ordering·lt, Ordering·eq, Ordering·gt}
-use native.Mathlib.Decide.{decLe}
 use native.Mathlib.Omega.{arith}
 use lib.Dec.{ltb}
 use lib.ListN.{length, take}
 use lib.IntN.{ℤ}
-use Rattle.model.specs.Book.{upFrom}
 use Rattle.model.specs.Entry.{Entry, cutField, cmp}
 use Rattle.model.specs.Tree.{Item, Tree, nil, node, height, items, slotsOf, all, isLess, ordered}
 use Rattle.model.specs.Add.{mend}
 use Rattle.model.specs.Strike.{leaf, from, heirOf, heir, moved, nearer, next, toward, strike, freed, left, right, Side as Way}
 use Rattle.model.specs.declared.Shape.{Shape}
-use Rattle.model.proofs.Crowd.{InPool, crowd, up-length}
-use Rattle.model.proofs.Lists.{Every, Once-each, perm-length}
+use Rattle.model.proofs.Crowd.{InPool}
+use Rattle.model.proofs.Lists.{Once-each}
 use Rattle.model.proofs.Orders.{cmp-eq}
 use Rattle.model.proofs.Strikes.{slots, slots-append}
 use Rattle.model.proofs.Trees.{both}
@@ -25,13 +23,16 @@ use Rattle.cells.specs.Slots.{leftAt, rightAt, numbersOf, Slot, Keyed, Room, En
 use Rattle.cells.specs.Memory.{Rep, In, Wrote}
 use Rattle.cells.specs.declared.order.Order.{Order}
 use Rattle.cells.specs.declared.order.Order.the-variants.{Less, Equal, Greater}
-use Rattle.cells.proofs.Reps.{Node, open-node, unique, rep-bound, rep-frame, node-in}
+use Rattle.cells.proofs.Reps.{Node, open-node, unique, rep-bound, rep-frame}
 use Rattle.ask.proofs.Walks.{keyed-in}
 use Rattle.seek.specs.Sides.{wayOf, onSide, higherOf}
 use Rattle.alter.specs.Strikes.{Strikable, StrikableOn, StruckOut, StruckOn}
 use Rattle.seek.specs.declared.side.Side.{Side}
 use Rattle.seek.specs.declared.side.Side.the-variants.{Left, Right}
 use Rattle.alter.specs.declared.strike.Struck.{Struck}
+use Rattle.build.proofs.Shapes.{every-in}
+use Rattle.mend.proofs.Heights.{rep-pool}
+use Rattle.mend.proofs.Sided.{Sided as Split, sided as split}
 use Rattle.alter.proofs.Struck.{sided, lists-apart}
 
 pub some-slot : (s : ℕ) → 0 < s → ¬ (s ≡ 0)
@@ -104,38 +105,11 @@ pub next-in : (w : Way) (t : ℕ) (a : Item) (is : List Item) → In (next w t a
 next-in w t a [] = inl refl
 next-in w t a (i ∷ is) = ⊎-elim (λ e. ⊎-elim (λ q. inl (e ∙ ap (λ (x : Item). x .slot) q)) (λ q. inr (inl (e ∙ ap (λ (x : Item). x .slot) q))) (nearer-one w t a i)) (λ h. inr (inr h)) (next-in w t (nearer w t a i) is)
 
--- ---- how many slots a tree in a pool has
-
-pub rep-pool : (K C : ℕ) (ks : List ℤ) (ls : List ℕ) → length ls ≡ 3 * C → (s : ℕ) (u : Tree) → Rep K ks ls s u → (j : ℕ) → In j (slots u) → InPool C j
-rep-pool K C ks ls n s nil p j h = absurd h
-rep-pool K C ks ls n s (node i l r) p j h =
-    ⊎-elim (rep-pool K C ks ls n (leftAt ls (i .slot)) l (p .4) j)
-    (λ x. ⊎-elim (λ e. rw e (p .1 .some, (let f = p .1 .fits in omega arith))) (rep-pool K C ks ls n (rightAt ls (i .slot)) r (p .5) j) x)
-    (node-in j i l r h)
-
-pub few-slots : (C : ℕ) (xs : List ℕ) → Once-each xs → Every (InPool C) xs → length xs ≤ C
-few-slots C xs o p = go (decLe (length xs) C)
-  where
-    go : Dec (length xs ≤ C) → length xs ≤ C
-    go (yes h) = h
-    go (no h) = let a : length xs ≡ length (upFrom C 1) = perm-length (crowd C xs o p (omega arith)) in let b = up-length C 1 in omega arith
-
-pub slots-length : (is : List Item) → length (slotsOf is) ≡ length is
-slots-length [] = refl
-slots-length (i ∷ is) = ap suc (slots-length is)
-
 -- ---- a tree at a slot, as a node by a side
 
-pub record Halves (side : Side) (u : Tree) : Type 0 where
-  pub item : Item
-  pub there : Tree
-  pub other : Tree
-  pub is : u ≡ node item (onSide side there other) (onSide side other there)
-
-pub halves : (K : ℕ) (ks : List ℤ) (ls : List ℕ) (s : ℕ) (side : Side) (u : Tree) → Rep K ks ls s u → ¬ (s ≡ 0) → Halves side u
+pub halves : (K : ℕ) (ks : List ℤ) (ls : List ℕ) (s : ℕ) (side : Side) (u : Tree) → Rep K ks ls s u → ¬ (s ≡ 0) → Split side u
 halves K ks ls s side nil p ne = absurd (ne p)
-halves K ks ls s Left (node i l r) p ne = record { item = i; there = l; other = r; is = refl }
-halves K ks ls s Right (node i l r) p ne = record { item = i; there = r; other = l; is = refl }
+halves K ks ls s side (node i l r) p ne = split side i l r
 
 -- with other numbers at its root
 pub rewritten : (K : ℕ) (ks ks₁ : List ℤ) (ls : List ℕ) (s : ℕ) (e : Entry) (i : Item) (l r : Tree) → Wrote K ks ks₁ s e → Once-each (slots (node i l r)) → Rep K ks ls s (node i l r) → Rep K ks₁ ls s (node (moved i e) l r)
@@ -156,7 +130,7 @@ module _ (S : Shape) (ks : List ℤ) (ls : List ℕ) (s c : ℕ) (m : Room S (le
   here = open-node (S .k) ks ls s (g .tree) (g .stands .rep) ne
 
   pub pooled : (j : ℕ) → In j (slots (g .tree)) → InPool (S .c) j
-  pooled = rep-pool (S .k) (S .c) ks ls (m .long) s (g .tree) (g .stands .rep)
+  pooled = every-in (InPool (S .c)) (slots (g .tree)) (rep-pool (S .k) (S .c) ks ls (m .long) s (g .tree) (g .stands .rep))
 
   pub slot-here : Slot (length ls) s
   slot-here = here .slot
@@ -178,7 +152,7 @@ module _ (S : Shape) (ks : List ℤ) (ls : List ℕ) (s c : ℕ) (m : Room S (le
 
   -- the two ways down
   module _ (side : Side) where
-    parts : Halves side (g .tree)
+    parts : Split side (g .tree)
     parts = halves (S .k) ks ls s side (g .tree) (g .stands .rep) ne
 
     pub side-ready : StrikableOn (S .k) ks ls s c side

@@ -31,7 +31,10 @@ use Rattle.alter.specs.Strikes.{Strikable, StrikableOn, StruckOut, Struc
 use Rattle.seek.specs.declared.side.Side.{Side}
 use Rattle.alter.specs.declared.strike.Struck.{Struck}
 use Rattle.alter.proofs.Struck.{every-of, near-in, Sided, sided, apart}
-use Rattle.alter.proofs.Heirs.{on-on, strike-takes, freed-takes, strike-ends, freed-ends, heir-side, ordered-on, next-in, few-slots, slots-length, Halves, halves, rewritten, slots-moved, pooled, once-any, side-ready}
+use Rattle.ask.proofs.Listed.{slots-length}
+use Rattle.mend.proofs.Heights.{few}
+use Rattle.mend.proofs.Sided.{Sided as Split}
+use Rattle.alter.proofs.Heirs.{on-on, strike-takes, freed-takes, strike-ends, freed-ends, heir-side, ordered-on, next-in, halves, rewritten, slots-moved, pooled, once-any, side-ready}
 
 -- an entry as it is handed out, taken in again
 back : (K : ℕ) (v : Entry) → length v ≡ K → take K (outward v .f) ≡ v
@@ -51,7 +54,7 @@ module _ (S : Shape) (ks : List ℤ) (ls : List ℕ) (s c : ℕ) (m : Room S (le
     (side : Side) (q : side ≡ higherOf (tall ls (leftAt ls s)) (tall ls (rightAt ls s))) (child : ℕ) (qc : child ≡ childAt ls s side) where
   -- a tree at s as a node by that side
   module _ (t : ℕ) (u : Tree) (p : Rep (S .k) ks ls s u) where
-    pub cut : Halves side u
+    pub cut : Split side u
     cut = halves (S .k) ks ls s side u p ne
 
     at-cut : Rep (S .k) ks ls s (node (cut .item) (onSide side (cut .there) (cut .other)) (onSide side (cut .other) (cut .there)))
@@ -105,7 +108,7 @@ module _ (S : Shape) (ks : List ℤ) (ls : List ℕ) (s c : ℕ) (m : Room S (le
     child-stands = record {
       tree = on .there;
       stands = record { depth = suc (on .depth); cut = d .at (on .depth) (on .cut); rep = near-on; inOrder = on .inOrder };
-      few = (let a = few-slots (S .c) (slots (on .there)) (apart side (on .item) (on .there) (on .other) (on .once) .once) (every-of (InPool (S .c)) (slots (on .there)) in-tree) in let b = slots-length (items (on .there)) in omega arith);
+      few = (let a = few (S .c) (slots (on .there)) (apart side (on .item) (on .there) (on .other) (on .once) .once) (every-of (InPool (S .c)) (slots (on .there)) in-tree) in let b = slots-length (items (on .there)) in omega arith);
     }
 
     module _ (x : ℕ) (so : Sought (S .k) ks ls side c child c′ x) where

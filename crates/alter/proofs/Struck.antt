@@ -23,6 +23,7 @@ use Rattle.cells.proofs.Slots.{tall-slot}
 use Rattle.cells.proofs.Reps.{tall-rep, unique, in-left, in-right, in-cases, in-node, rep-frame, frame-trans}
 use Rattle.build.proofs.Shapes.{every-in, in-perm}
 use Rattle.mend.specs.Mends.{MendableOn, MendedOn}
+use Rattle.mend.proofs.Sided.{child-same}
 use Rattle.seek.specs.Sides.{itemIn, childAt, otherOf, onSide}
 use Rattle.alter.specs.Strikes.{Strikable, StrikableOn, StruckOut, StruckOn}
 use Rattle.seek.specs.declared.side.Side.{Side}
@@ -129,10 +130,6 @@ near-in Right i u w j h = in-node j i w u (inr (inr h))
 sided-fewer : (side : Side) (i : Item) (u u′ w : Tree) → Fewer (slots u′) (slots u) → Fewer (slots (onSide side u′ w) ++ (i .slot ∷ slots (onSide side w u′))) (slots (node i (onSide side u w) (onSide side w u)))
 sided-fewer Left i u u′ w f = rw (slots-append (items u) (i ∷ items w)) (fewer-around (slots u′) (slots u) (slots w) (slots w) (i .slot) f (fewer-self (slots w)))
 sided-fewer Right i u u′ w f = rw (slots-append (items w) (i ∷ items u)) (fewer-around (slots w) (slots w) (slots u′) (slots u) (i .slot) (fewer-self (slots w)) f)
-
-child-same : (K : ℕ) (ks ks′ : List ℤ) (ls ls′ : List ℕ) (s : ℕ) (side : Side) → Same K ks ks′ ls ls′ s → childAt ls′ s side ≡ childAt ls s side
-child-same K ks ks′ ls ls′ s Left e = e .left
-child-same K ks ks′ ls ls′ s Right e = e .right
 
 -- ---- before the strike of a side
 

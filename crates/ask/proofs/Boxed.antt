@@ -21,7 +21,7 @@ use Rattle.model.proofs.Orders.{order-eq, order-trans}
 use Rattle.model.proofs.Trees.{both}
 use Rattle.cells.specs.Slots.{leftAt, rightAt, numbersOf, Slot}
 use Rattle.cells.specs.Memory.{Rep}
-use Rattle.cells.proofs.Signs.{back}
+use Rattle.model.proofs.Machine.{back}
 use Rattle.ask.specs.Boxes.{lowerOpen, upperOpen, Weighed, boxed, noting, Noted}
 use Rattle.ask.specs.declared.boxes.Sides.{Sides}
 

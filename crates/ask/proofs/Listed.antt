@@ -69,7 +69,7 @@ box-listing bs u d =
     keep-boxed bs (rank 0 is)
     ∙ ap entriesOf (sorted-one 0 (boxed bs (rank 0 is)) (rank 0 (boxed bs is)) (List·Permᴰ·trans (boxed-perm bs (rank-perm 0 is)) (Permᴰ·symm (rank-perm 0 (boxed bs is)))) (boxed-distinct bs (rank 0 is) (perm-distinct (Permᴰ·symm (rank-perm 0 is)) d)) (boxed-sorted bs 0 (rank 0 is) (rank-sorted 0 is d)) (rank-sorted 0 (boxed bs is) db))
 
-slots-length : (is : List Item) → length (slotsOf is) ≡ length is
+pub slots-length : (is : List Item) → length (slotsOf is) ≡ length is
 slots-length [] = refl
 slots-length (i ∷ is) = rw (slots-length is) refl
 

@@ -23,7 +23,7 @@ use Rattle.cells.specs.Orders as orders
 use Rattle.cells.specs.Slots.{leftAt, rightAt, addressOf, numbersOf, Keyed, Room, SlotsCompared}
 use Rattle.cells.specs.declared.order.Order.{Order}
 use Rattle.cells.specs.declared.order.Order.the-variants as told
-use Rattle.cells.proofs.Signs.{back}
+use Rattle.model.proofs.Machine.{back}
 use Rattle.cells.proofs.Slots.{numbers-long, part-at}
 use Rattle.ask.specs.Nearest.{Bettered, Turned}
 use Rattle.ask.specs.declared.near.Best.{Best}

@@ -17,7 +17,7 @@ use Rattle.model.proofs.Orders.{order-eq}
 use Rattle.cells.specs.Orders.{named, Compared, Deeper}
 use Rattle.cells.specs.declared.order.Order.{Order}
 use Rattle.cells.specs.declared.order.Order.the-variants.{Less, Equal, Greater}
-use Rattle.cells.proofs.Signs.{back}
+use Rattle.model.proofs.Machine.{back}
 
 -- one field decides, or the others do
 abbrev pub orElse : Order → Order → Order

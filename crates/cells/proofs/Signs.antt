@@ -1,10 +1,10 @@
 -- Signed numbers: what the machine's tests and bits say of them, at both ends of the range as anywhere.
 use mathlib.Core.Path.{_≡_, refl, sym, ap, _∙_}
 use mathlib.Core.Bool.{Bool, true, false, not, true≢false}
-use Prim.Native.Nat.{_^_, _<_, Ordering, Ordering·lt, Ordering·eq, Ordering·gt}
+use Prim.Native.Nat.{Ordering, Ordering·lt, Ordering·eq, Ordering·gt}
 use lib.Dec.{eqb}
 use lib.IntN.{ℤ}
-use lib.Signed.{mag, ltZ}
+use lib.Signed.{ltZ}
 use mir.Syntax.{w64}
 use borrow.Author.Tests.{eq-eqb, eqb-true, not-false, not-true}
 use mir.Val.{toZ, ofZ, SFits}
@@ -16,10 +16,6 @@ use Rattle.model.proofs.Numbers.{ltZ-cmp}
 use Rattle.model.proofs.Trees.{isLess-true}
 use Rattle.cells.specs.Orders.{named}
 use Rattle.cells.specs.declared.order.Order.the-variants.{Less, Equal, Greater}
-
--- a signed value, read back from its bits
-pub back : (z : ℤ) → mag z < 2 ^ 63 → toZ w64 (ofZ w64 z) ≡ z
-back z h = toZ-ofZ w64 z (record { sfits = h })
 
 -- a signed test tells of the numbers themselves
 module _ {x y : ℤ} (fx : SFits w64 x) (fy : SFits w64 y) {b : Bool} where

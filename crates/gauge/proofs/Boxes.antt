@@ -16,7 +16,7 @@ use Rattle.model.specs.Number.{order, fieldDistance}
 use Rattle.model.specs.Entry.{Entry, distance}
 use Rattle.model.specs.Ask.{holds, inBox}
 use Rattle.model.specs.declared.Bound.{Bound}
-use Rattle.cells.proofs.Signs.{back}
+use Rattle.model.proofs.Machine.{back}
 
 -- past the last number of p nothing is far
 dist-none : (ss : List ℕ) (f : Entry) → distance ss f [] ≡ 0

@@ -3,52 +3,26 @@ use mathlib.Core.Path.{_≡_, refl, sym, ap, _∙_}
 use mathlib.Core.Bool.{true, false}
 use Prim.Native.Nat.{ℕ, suc, _+_, _-_, _/_, _%_, _^_, _≤_, _<_}
 use native.Mathlib.Omega.{arith}
-use borrow.Author.Tests.{ltb-true, ltb-false, le-ltb, leb-true, le-leb}
-use lib.Dec.{T}
-use lib.IntN.{ℤ, pos, negsuc, natAbs, _-ℤ_}
-use lib.Signed.{ltZ, leZ, nonNeg}
+use borrow.Author.Tests.{ltb-true, ltb-false, leb-true, le-leb}
+use lib.IntN.{ℤ, pos, negsuc}
+use lib.Signed.{ltZ, leZ}
 use mir.Syntax.{w64}
-use mir.Val.{toZ, ofZ, SFits, Fits}
-use mir.ValLaws.{toZ-ofZ, toZ-pos}
+use mir.Val.{toZ, ofZ, SFits}
+use mir.ValLaws.{toZ-ofZ}
 use Rattle.model.specs.Number.{difference, fieldDistance}
 use Rattle.model.proofs.Distances.{distance-low}
+use Rattle.model.proofs.Machine.{Up}
 use Rattle.gauge.specs.Bits.{bitsOf}
 
--- a number z that is k, which fits: what a cast to u64 asks and gives
-module _ (z : ℤ) (k : ℕ) (e : z ≡ pos k) (h : k < 2 ^ 63) where
-  is : toZ w64 (ofZ w64 z) ≡ pos k
-  is = rw e (toZ-pos w64 k h)
-
-  pub cast-asks : T (nonNeg (toZ w64 (ofZ w64 z))) × Fits w64 (natAbs (toZ w64 (ofZ w64 z)))
-  cast-asks = rw is (tt, record { fits = omega arith })
-
-  pub cast-is : natAbs (toZ w64 (ofZ w64 z)) ≡ k
-  cast-is = ap natAbs is
-
--- x below 0: 2^63 more than x is not, and that and 2^63 more are x's bits
-pub record Up (x : ℤ) : Type 0 where
-  pub at : ℕ
-  pub is : toZ w64 (ofZ w64 x) -ℤ negsuc 9223372036854775807 ≡ pos at
-  pub small : at < 2 ^ 63
-  pub bits : at + 9223372036854775808 ≡ bitsOf x
-
-pub up : (x : ℤ) → SFits w64 x → ltZ (toZ w64 (ofZ w64 x)) (pos 0) ≡ true → Up x
+-- the bits of x below 0: 2^63 more than x, and 2^63 more again; of x at least 0: x itself
+pub bits-up : (x : ℤ) (u : Up x) → u .at + 9223372036854775808 ≡ bitsOf x
 unfolding bitsOf
-up (pos n) f h = absurd (let z : n < 0 = ltb-true n 0 (rw (toZ-ofZ w64 (pos n) f) at h) in omega arith)
-up (negsuc n) f h =
-    let g : n < 2 ^ 63 = f .sfits in
-    record {
-      at = 9223372036854775808 - suc n;
-      is = rw (toZ-ofZ w64 (negsuc n) f, le-ltb 9223372036854775808 (suc n) g);
-      small = omega arith;
-      bits = omega arith;
-    }
+bits-up (pos n) u = let z : _≡_ {A = ℕ} 0 1 = cc (u .below .1) in absurd (omega arith)
+bits-up (negsuc n) u = let a : u .at + suc n ≡ 9223372036854775808 = u .lacks in omega arith
 
--- x at least 0: x is its own bits
-pub over : (x : ℤ) → SFits w64 x → ltZ (toZ w64 (ofZ w64 x)) (pos 0) ≡ false → (x ≡ pos (bitsOf x)) × (bitsOf x < 2 ^ 63)
+pub bits-over : (x : ℤ) (k : ℕ) → x ≡ pos k → k ≡ bitsOf x
 unfolding bitsOf
-over (pos n) f h = (refl, f .sfits)
-over (negsuc n) f h = absurd (let z : true ≡ false = (rw (toZ-ofZ w64 (negsuc n) f) at h) in let y : _≡_ {A = ℕ} 0 1 = cc in omega arith)
+bits-over x k e = sym (ap bitsOf e)
 
 -- the wrapped difference of the bits, the larger's less the smaller's, is the difference itself
 module _ (r : ℕ) (fr : r < 2 ^ 64) where

@@ -43,3 +43,4 @@ pub mod Returned
 pub mod Linewise
 pub mod Lawful
 pub mod Shown
+pub mod Machine

@@ -1,8 +1,9 @@
 -- Lists of anything: what holds of every element, that no element stands twice, permutations.
 use mathlib.Core.Path.{_≡_, refl, sym, ap, _∙_}
 use mathlib.Core.List.{List, [], _∷_, _++_, List·Permᴰ, List·Permᴰ·nil, List·Permᴰ·cons, List·Permᴰ·swap, List·Permᴰ·trans}
-use Prim.Native.Nat.{suc}
-use lib.ListN.{length}
+use Prim.Native.Nat.{ℕ, zero, suc, _<_}
+use native.Mathlib.Omega.{arith}
+use lib.ListN.{length, getD}
 
 module _ {A : Type 0} where
   abbrev pub Every : (A → Type 0) → List A → Type 0
@@ -18,6 +19,11 @@ module _ {A : Type 0} where
   pub every-split : (P : A → Type 0) (a b : List A) → Every P (a ++ b) → Every P a × Every P b
   every-split P [] b h = (tt, h)
   every-split P (x ∷ a) b (h, hs) = let r = every-split P a b hs in ((h, r .0), r .1)
+
+  pub every-at : (P : A → Type 0) (d : A) (xs : List A) → Every P xs → (i : ℕ) → i < length xs → P (getD xs i d)
+  every-at P d [] h i l = absurd (omega arith)
+  every-at P d (x ∷ xs) (h, hs) zero l = h
+  every-at P d (x ∷ xs) (h, hs) (suc i) l = every-at P d xs hs i (omega arith)
 
   pub every-map : (P Q : A → Type 0) → ((x : A) → P x → Q x) → (xs : List A) → Every P xs → Every Q xs
   every-map P Q f [] h = tt

@@ -3,86 +3,42 @@ use mathlib.Core.Path.{_≡_, refl, ap, _∙_}
 use mathlib.Core.Bool.{true, false}
 use Prim.Native.Nat.{ℕ, zero, suc, _+_, _-_, _^_, _<_, _≤_}
 use native.Mathlib.Omega.{arith}
-use borrow.Author.Tests.{ltb-true, le-ltb}
-use lib.Dec.{T}
+use borrow.Author.Tests.{ltb-true}
 use lib.IntN.{ℤ, pos, negsuc, natAbs, _-ℤ_}
-use lib.Signed.{mag, ltZ, nonNeg}
+use lib.Signed.{mag, ltZ}
 use mir.Syntax.{w64}
-use mir.Val.{toZ, ofZ, SFits, Fits}
+use mir.Val.{toZ, ofZ, SFits}
 use mir.ValLaws.{toZ-ofZ, toZ-pos}
 use lib.ListN.{length}
 use mathlib.Core.List.{_∷_}
 use native.Mathlib.Numerals.{sub-one}
 use Rattle.model.specs.Text.{decimal, minus, signed}
-use Rattle.print.specs.Sign.{magnitudeOf}
+use Rattle.model.proofs.Machine.{back}
 use Rattle.print.proofs.Decimals.{decimal-short}
 
--- a signed value that was stored and read back
-pub back : (z : ℤ) → mag z < 2 ^ 63 → toZ w64 (ofZ w64 z) ≡ z
-back z h = toZ-ofZ w64 z (record { sfits = h })
-
--- a number z that is k, which fits: what a cast to an unsigned type asks and gives
-module _ (z : ℤ) (k : ℕ) (e : z ≡ pos k) (h : k < 2 ^ 63) where
-  is : toZ w64 (ofZ w64 z) ≡ pos k
-  is = rw e (toZ-pos w64 k h)
-
-  pub cast-asks : T (nonNeg (toZ w64 (ofZ w64 z))) × Fits w64 (natAbs (toZ w64 (ofZ w64 z)))
-  cast-asks = rw is (tt, record { fits = omega arith })
-
-  pub cast-is : natAbs (toZ w64 (ofZ w64 z)) ≡ k
-  cast-is = ap natAbs is
-
--- x below 0: 2^63 more than x is not, and lacks as much of 2^63 as x's magnitude
-pub record Up (x : ℤ) : Type 0 where
-  pub at : ℕ
-  pub is : toZ w64 (ofZ w64 x) -ℤ negsuc 9223372036854775807 ≡ pos at
-  pub small : at < 2 ^ 63
-  pub lacks : at + magnitudeOf x ≡ 9223372036854775808
-
-pub up : (x : ℤ) → SFits w64 x → ltZ (toZ w64 (ofZ w64 x)) (pos 0) ≡ true → Up x
-unfolding magnitudeOf
-up (pos n) f h = absurd (let z : n < 0 = ltb-true n 0 (rw (toZ-ofZ w64 (pos n) f) at h) in omega arith)
-up (negsuc n) f h =
-    let g : n < 2 ^ 63 = f .sfits in
-    record {
-      at = 9223372036854775808 - suc n;
-      is = rw (toZ-ofZ w64 (negsuc n) f, le-ltb 9223372036854775808 (suc n) g);
-      small = omega arith;
-      lacks = omega arith;
-    }
-
--- x at least 0: x is its magnitude
-pub over : (x : ℤ) → SFits w64 x → ltZ (toZ w64 (ofZ w64 x)) (pos 0) ≡ false → (x ≡ pos (magnitudeOf x)) × (magnitudeOf x < 2 ^ 63)
-unfolding magnitudeOf
-over (pos n) f h = (refl, f .sfits)
-over (negsuc n) f h = absurd (let z : true ≡ false = (rw (toZ-ofZ w64 (negsuc n) f) at h) in let y : _≡_ {A = ℕ} 0 1 = cc in omega arith)
-
 -- the magnitude that the machine had of x, and x's sign, tell x's print
-module _ (x : ℤ) (m : ℕ) (f : SFits w64 x) (e : m ≡ magnitudeOf (toZ w64 (ofZ w64 x))) where
-  same-magnitude : m ≡ magnitudeOf x
-  same-magnitude = e ∙ ap magnitudeOf (toZ-ofZ w64 x f)
+module _ (x : ℤ) (m : ℕ) (f : SFits w64 x) (e : m ≡ natAbs (toZ w64 (ofZ w64 x))) where
+  same-magnitude : m ≡ natAbs x
+  same-magnitude = e ∙ ap natAbs (toZ-ofZ w64 x f)
 
   pub print-below : ltZ (toZ w64 (ofZ w64 x)) (pos 0) ≡ true → signed x ≡ 45 ∷ decimal m
-  unfolding magnitudeOf
   print-below h = rw same-magnitude (below x (rw (toZ-ofZ w64 x f) at h))
     where
-      below : (y : ℤ) → ltZ y (pos 0) ≡ true → signed y ≡ 45 ∷ decimal (magnitudeOf y)
+      below : (y : ℤ) → ltZ y (pos 0) ≡ true → signed y ≡ 45 ∷ decimal (natAbs y)
       below (pos n) g = absurd (let z : n < 0 = ltb-true n 0 g in omega arith)
       below (negsuc n) g = refl
 
   pub print-over : ltZ (toZ w64 (ofZ w64 x)) (pos 0) ≡ false → signed x ≡ decimal m
-  unfolding magnitudeOf
   print-over h = rw same-magnitude (above x (rw (toZ-ofZ w64 x f) at h))
     where
-      above : (y : ℤ) → ltZ y (pos 0) ≡ false → signed y ≡ decimal (magnitudeOf y)
+      above : (y : ℤ) → ltZ y (pos 0) ≡ false → signed y ≡ decimal (natAbs y)
       above (pos n) g = refl
       above (negsuc n) g = absurd (let z : _≡_ {A = ℕ} 0 1 = cc in omega arith)
 
   pub magnitude-small : m ≤ 9223372036854775808
-  unfolding magnitudeOf
   magnitude-small = rw same-magnitude (small x (f .sfits))
     where
-      small : (y : ℤ) → mag y < 2 ^ 63 → magnitudeOf y ≤ 9223372036854775808
+      small : (y : ℤ) → mag y < 2 ^ 63 → natAbs y ≤ 9223372036854775808
       small (pos n) g = omega arith
       small (negsuc n) g = omega arith
 

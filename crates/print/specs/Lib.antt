@@ -1,5 +1,4 @@
 -- What the contracts of this crate cite.
 pub mod Place
-pub mod Sign
 pub mod Line
 pub mod Title

@@ -1,9 +1,9 @@
 // How many bytes each print has.
 ghost use mathlib.Core.Path.{_≡_};
 ghost use Prim.Native.Nat.{_+_, _≤_};
+ghost use lib.IntN.{natAbs};
 ghost use lib.ListN.{length};
 ghost use Rattle.model.specs.Text.{decimal, signed, pairs, title};
-ghost use Rattle.print.specs.Sign.{magnitudeOf};
 
 // Digits are counted by dividing by ten.
 pub fn decimal_length(n: usize) -> usize
@@ -20,7 +20,7 @@ pub fn decimal_length(n: usize) -> usize
 
 // A number without its sign; the least number's has no i64 of its own.
 pub fn magnitude(x: i64) -> usize
-    ensures { λ r. ⌜ r ≡ magnitudeOf x ⌝ }
+    ensures { λ r. ⌜ r ≡ natAbs x ⌝ }
 {
     if x < 0 {
         let up = x - i64::MIN;

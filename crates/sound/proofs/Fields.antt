@@ -22,7 +22,7 @@ use Rattle.cells.specs.Orders.{named}
 use Rattle.cells.specs.Slots.{Room, Keyed, addressOf, numbersOf}
 use Rattle.cells.specs.declared.order.Order.{Order}
 use Rattle.cells.proofs.Orders.{cut-spans, orElse}
-use Rattle.cells.proofs.Signs.{back}
+use Rattle.model.proofs.Machine.{back}
 use Rattle.cells.proofs.Slots.{address-ends, address-is-low, numbers-long}
 use Rattle.sound.specs.Parts.{Tells}
 use Rattle.sound.specs.Tree.{Before, First}

@@ -12,18 +12,12 @@ use Rattle.model.specs.Answer.{inward}
 use Rattle.model.specs.Calls.{entriesIn}
 use Rattle.model.specs.Entry.{Entry}
 use Rattle.model.specs.Text.{cutLine, entryLines, parse, ranged, title}
-use Rattle.model.proofs.Lists.{Every, Once-each}
+use Rattle.model.proofs.Lists.{Every, Once-each, every-at}
 use Rattle.model.proofs.Texts.{Taken, only-saved, rise-once, taken-cut}
 use Rattle.text.specs.Told.{ReadBack, Standing, Stands}
 use Rattle.text.specs.declared.Read.{Read}
 use Rattle.weigh.specs.Saved.{Saves}
 use Rattle.weigh.proofs.Inward.{back-in}
-
--- one of a list
-every-at : (P : Entry → Type 0) (es : List Entry) → Every P es → (i : ℕ) → i < length es → P (getD es i [])
-every-at P [] h i l = absurd (omega arith)
-every-at P (e ∷ es) (h, hs) zero l = h
-every-at P (e ∷ es) (h, hs) (suc i) l = every-at P es hs i (omega arith)
 
 once-from : (es : List Entry) → Once-each es → (i : ℕ) → i < length es → Every (λ y. ¬ (getD es i [] ≡ y)) (drop (suc i) es)
 once-from [] o i l = absurd (omega arith)
@@ -64,13 +58,13 @@ module _ (text : List ℕ) (K n : ℕ) (s : Saves text K n) where
     lines-on = drop-cons es i [] within ∙ ap (λ j. getD es i [] ∷ drop j es) (sym (add-one i))
 
     pub sized-at : length (getD es i []) ≡ K
-    sized-at = every-at (λ e. length e ≡ K) es (taken .writable .sized) i within
+    sized-at = every-at (λ e. length e ≡ K) [] es (taken .writable .sized) i within
 
     pub once-at : Every (λ y. ¬ (getD es i [] ≡ y)) (drop (i + 1) es)
     once-at = subst (λ j. Every (λ y. ¬ (getD es i [] ≡ y)) (drop j es)) (sym (add-one i)) (once-from es (rise-once none es (taken .writable .rising)) i within)
 
     line-here : Stands (drop at text) K (getD es i []) (entryLines (drop (i + 1) es))
-    line-here = record { printed = v .1 .1 ∙ ap entryLines lines-on; sized = sized-at; in-range = every-at (λ e. ranged e ≡ true) es (taken .writable .ranged) i within }
+    line-here = record { printed = v .1 .1 ∙ ap entryLines lines-on; sized = sized-at; in-range = every-at (λ e. ranged e ≡ true) [] es (taken .writable .ranged) i within }
 
     pub line-ready : ((1 ≤ K) × (K ≤ 4)) × ((at ≤ length text) × Standing (drop at text) K)
     line-ready = (text-fields, (v .1 .0, record { entry = getD es i []; rest = entryLines (drop (i + 1) es); stands = line-here }))

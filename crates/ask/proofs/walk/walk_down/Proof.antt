@@ -4,7 +4,7 @@ use mathlib.Core.Logic.{⊎-elim}
 use Prim.Native.Nat.{_-_}
 use lib.ListN.{length, getD}
 use lib.IntN.{pos}
-use Rattle.cells.proofs.Signs.{back}
+use Rattle.model.proofs.Machine.{back}
 use borrow.Author.Needs.{needs}
 use Rattle.ask.proofs.Walks.{Walking, walk-starts, ends-gone, ends-out, ends-long, ends-found, goes-left, goes-right, goes-on, slot-in, keyed-in, small-slot}
 use Rattle.ask.proofs.walk.walk_down.Statement.{statement}

@@ -6,7 +6,7 @@ use Prim.Native.Nat.{_≤_, _-_}
 use lib.ListN.{length, take, replicate}
 use lib.Seq.{take-length}
 use lib.IntN.{ℤ, pos}
-use Rattle.cells.proofs.Signs.{back}
+use Rattle.model.proofs.Machine.{back}
 use Rattle.cells.proofs.Writes.{fill-more}
 use Rattle.cells.proofs.slot.entry_of.Statement.{statement}
 use Rattle.cells.proofs.slot.entry_of.Tie as tie

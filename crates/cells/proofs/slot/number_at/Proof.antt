@@ -1,7 +1,7 @@
 use Prim.Native.Nat.{_+_}
 use lib.ListN.{getD}
 use lib.IntN.{pos}
-use Rattle.cells.proofs.Signs.{back}
+use Rattle.model.proofs.Machine.{back}
 use mathlib.Core.Path.{_∙_}
 use native.Mathlib.Omega.{arith}
 use Rattle.cells.proofs.Slots.{address-is-low, number-is, number-in}

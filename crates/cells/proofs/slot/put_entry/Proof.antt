@@ -4,7 +4,7 @@ use mathlib.Core.Path.{_≡_, refl}
 use Prim.Native.Nat.{_≤_, _-_}
 use lib.ListN.{length, take}
 use lib.Seq.{sets}
-use Rattle.cells.proofs.Signs.{back}
+use Rattle.model.proofs.Machine.{back}
 use Rattle.cells.proofs.Slots.{address-is-low, address-ends}
 use Rattle.cells.proofs.Writes.{write-more, wrote-all, kept-length}
 use Rattle.cells.proofs.slot.put_entry.Statement.{statement}

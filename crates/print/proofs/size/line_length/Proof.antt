@@ -8,7 +8,8 @@ use lib.ListN.{length, getD, drop}
 use Rattle.model.specs.Text.{signed}
 use Rattle.print.specs.Line.{ended}
 use Rattle.print.proofs.Rows as laws
-use Rattle.print.proofs.Signs.{back, signed-short}
+use Rattle.model.proofs.Machine.{back}
+use Rattle.print.proofs.Signs.{signed-short}
 use Rattle.print.proofs.size.line_length.Statement.{statement}
 use Rattle.print.proofs.size.line_length.Tie as tie
 

@@ -1,6 +1,6 @@
 -- A number below 0 goes up by 2^63 first, so that every step fits.
 use native.Mathlib.Omega.{arith}
-use Rattle.print.proofs.Signs.{up, over, cast-asks, cast-is}
+use Rattle.model.proofs.Machine.{up, over, cast-asks, cast-is}
 use Rattle.print.proofs.size.magnitude.Statement.{statement}
 use Rattle.print.proofs.size.magnitude.Tie as tie
 

@@ -11,7 +11,7 @@ use Rattle.print.specs.Line.{ended}
 use Rattle.print.specs.Place.{written}
 use Rattle.print.proofs.Places.{written-one}
 use Rattle.print.proofs.Rows as laws
-use Rattle.print.proofs.Signs.{back}
+use Rattle.model.proofs.Machine.{back}
 use Rattle.print.proofs.write.put_line.Statement.{statement}
 use Rattle.print.proofs.write.put_line.Tie as tie
 

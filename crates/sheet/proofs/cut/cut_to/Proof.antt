@@ -3,7 +3,7 @@ use mathlib.Core.Bool.{cond}
 use lib.Dec.{ltb}
 use lib.ListN.{length, getD}
 use lib.IntN.{pos}
-use Rattle.cells.proofs.Signs.{back}
+use Rattle.model.proofs.Machine.{back}
 use Rattle.sheet.proofs.Outward.{cut-out}
 use borrow.Author.Needs.{needs}
 use Rattle.sheet.proofs.cut.cut_to.Statement.{statement}

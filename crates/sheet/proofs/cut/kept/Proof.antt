@@ -1,5 +1,5 @@
 use mathlib.Core.Path.{_∙_}
-use Rattle.cells.proofs.Signs.{back}
+use Rattle.model.proofs.Machine.{back}
 use Rattle.sheet.proofs.Outward.{kept-in, kept-out}
 use Rattle.sheet.proofs.cut.kept.Statement.{statement}
 use Rattle.sheet.proofs.cut.kept.Tie as tie

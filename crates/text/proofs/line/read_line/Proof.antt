@@ -9,7 +9,7 @@ use lib.ListN.{length, take, drop, length-set, replicate}
 use Rattle.text.specs.Strict.{lineAt}
 use Rattle.text.proofs.Pairs as laws
 use Rattle.text.proofs.Pairs.{prefixed}
-use Rattle.print.proofs.Signs.{back}
+use Rattle.model.proofs.Machine.{back}
 use Rattle.text.proofs.line.read_line.Statement.{statement}
 use Rattle.text.proofs.line.read_line.Tie as tie
 

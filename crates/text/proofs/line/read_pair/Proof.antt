@@ -1,5 +1,5 @@
 -- One law for each way out.
-use Rattle.print.proofs.Signs.{back}
+use Rattle.model.proofs.Machine.{back}
 use native.Mathlib.Omega.{arith}
 use Rattle.text.proofs.Pairs as laws
 use borrow.Author.Needs.{needs}

@@ -6,7 +6,7 @@ use lib.IntN.{pos}
 use lib.ListN.{getD}
 use borrow.Author.Count.{below-more}
 use borrow.Author.Needs.{needs}
-use Rattle.cells.proofs.Signs.{back}
+use Rattle.model.proofs.Machine.{back}
 use Rattle.cells.proofs.order.differ.Reads as differ-reads
 use Rattle.weigh.proofs.Begun.{Alike, fields-same, fields-other}
 use Rattle.weigh.proofs.items.alike.Statement.{statement}

@@ -4,7 +4,7 @@ use lib.ListN.{getD}
 use mir.Syntax.{w64}
 use mir.ValLaws.{toZ-ofZ}
 use borrow.Author.Needs.{needs}
-use Rattle.cells.proofs.Signs.{back}
+use Rattle.model.proofs.Machine.{back}
 use Rattle.cells.proofs.order.differ.Reads as differ-reads
 use Rattle.weigh.proofs.Begun.{told-same}
 use Rattle.weigh.proofs.items.begins.Statement.{statement}
