@@ -19,7 +19,7 @@ same-by : (a b : ℕ) (t : Bool) → eqb a b ≡ t → Dec (a ≡ b)
 same-by a b true e = yes (eqb-true a b e)
 same-by a b false e = no (eqb-false a b e)
 
-same : (a b : ℕ) → Dec (a ≡ b)
+pub same : (a b : ℕ) → Dec (a ≡ b)
 same a b = same-by a b (eqb a b) refl
 
 -- depths of one cut have one order on entries of K numbers
@@ -36,7 +36,7 @@ beyond-trans low t a b c p q = cmp-trans t a b c p q
 beyond-trans high t a b c p q = cmp-trans t c b a q p
 
 -- one place for each side and cut
-place-one : (d e : Side) (a b : ℕ) → a < 4 → b < 4 → place d a ≡ place e b → (d ≡ e) × (a ≡ b)
+pub place-one : (d e : Side) (a b : ℕ) → a < 4 → b < 4 → place d a ≡ place e b → (d ≡ e) × (a ≡ b)
 place-one low low a b h k q = (refl, q)
 place-one low high a b h k q = absurd (let z : a ≡ 4 + b = q in omega arith)
 place-one high low a b h k q = absurd (let z : 4 + a ≡ b = q in omega arith)

@@ -1,5 +1,5 @@
 -- The comparison of two slots by the first field that differs, from the cut on and then in front of it.
-use mathlib.Core.Path.{_≡_, refl, sym, ap, subst, _∙_}
+use mathlib.Core.Path.{_≡_, refl, sym, ap, _∙_}
 use mathlib.Core.Bool.{Bool, true, false}
 use mathlib.Core.List.{List, [], _∷_}
 use Prim.Native.Nat.{ℕ, zero, suc, _+_, _-_, _^_, _≤_, _<_, Ordering, Ordering·lt, Ordering·eq, Ordering·gt}
@@ -30,12 +30,8 @@ use Rattle.sound.proofs.Marks.{clash, cut-self, is-keyed, is-small, tel
 
 -- ---- `less`: a signed test
 
-pub less-told : (a : List ℤ) (i j : ℕ) → mag (getD a i (pos 0)) < 2 ^ 63 → mag (getD a j (pos 0)) < 2 ^ 63
-    → Tells (order (getD a i (pos 0)) (getD a j (pos 0)) ≡ Ordering·lt) (ltZ (toZ w64 (ofZ w64 (getD a i (pos 0)))) (toZ w64 (ofZ w64 (getD a j (pos 0)))))
-less-told a i j p q = rw (back (getD a i (pos 0)) p, back (getD a j (pos 0)) q, ltZ-cmp (getD a i (pos 0)) (getD a j (pos 0))) (record {
-  good = λ t. isLess-true (order (getD a i (pos 0)) (getD a j (pos 0))) t;
-  bad = λ t e. clash (sym (ap isLess e) ∙ t);
-})
+pub less-told : (x y : ℤ) → mag x < 2 ^ 63 → mag y < 2 ^ 63 → Tells (order x y ≡ Ordering·lt) (ltZ (toZ w64 (ofZ w64 x)) (toZ w64 (ofZ w64 y)))
+less-told x y p q = rw (back x p, back y q, ltZ-cmp x y) (record { good = λ t. isLess-true (order x y) t; bad = λ t e. clash (sym (ap isLess e) ∙ t) })
 
 -- ---- `differs`: the fields from..f are the same
 
@@ -109,6 +105,13 @@ module _ (a b : Entry) (c t : ℕ) (h : c < length a) (n : length a ≡ length b
       let e : c + (r - c) ≡ r = omega arith in
       let f : lex (drop c a) (drop c b) ≡ order (getD a r (pos 0)) (getD b r (pos 0)) = rw (← e, ← getD-drop c a (r - c) (pos 0), ← getD-drop c b (r - c) (pos 0)) (lex-first (drop c a) (drop c b) (r - c) (rw (length-drop, length-drop) (omega arith)) (rw length-drop (omega arith)) (λ m g. rw (getD-drop c a m (pos 0), getD-drop c b m (pos 0)) (s (c + m) (omega arith) (omega arith))) (rw (getD-drop c a (r - c) (pos 0), getD-drop c b (r - c) (pos 0), e) d)) in
       named-one (cmp t a b) (order (getD a r (pos 0)) (getD b r (pos 0))) (cut-spans a b c t h n q ∙ ap (λ x. orElse (named x) (named (lex (take c a) (take c b)))) f ∙ first-wins (order (getD a r (pos 0)) (getD b r (pos 0))) (named (lex (take c a) (take c b))) (λ z. d (order-eq (getD a r (pos 0)) (getD b r (pos 0)) z)))
+
+  -- it is the cut field
+  pub ahead : order (getD a c (pos 0)) (getD b c (pos 0)) ≡ Ordering·lt → cmp t a b ≡ Ordering·lt
+  ahead e = behind c (omega arith) h (λ m p k. absurd (omega arith)) (λ z. differ z) ∙ e
+    where
+      differ : getD a c (pos 0) ≡ getD b c (pos 0) → ⊥
+      differ z = let k = order-refl (getD b c (pos 0)) in let w : _≡_ {A = ℕ} 0 1 = cc in omega arith
 
   -- there is none from the cut on
   module _ (s : (m : ℕ) → c ≤ m → m < length a → getD a m (pos 0) ≡ getD b m (pos 0)) where
@@ -207,7 +210,4 @@ module _ (K : ℕ) (ks : List ℤ) (c a b : ℕ) (lt : c < K) (ka : Keyed K (len
           whole m l (no p) = tied m (omega arith) l
 
   pub by-cut : (o : Bool) → Tells (order (getD ks (i + c) (pos 0)) (getD ks (j + c) (pos 0)) ≡ Ordering·lt) o → o ≡ true → Tells (Before K ks c a b) true
-  by-cut o v e = subst (Tells (Before K ks c a b)) e (by-behind c (record { low = omega arith; high = omega arith; same = λ m p q. absurd (omega arith); other = λ p z. differ z }) lt o v)
-    where
-      differ : getD ks (i + c) (pos 0) ≡ getD ks (j + c) (pos 0) → ⊥
-      differ z = let p = v .good e in let q = order-refl (getD ks (j + c) (pos 0)) in let w : _≡_ {A = ℕ} 0 1 = cc in omega arith
+  by-cut o v e = tells-yes (Before K ks c a b) (λ m n t q. ahead A B c t (rw la lt) (la ∙ sym lb) (rw la q) (order-at c lt ∙ v .good e))

@@ -2,6 +2,7 @@
 mod Marks
 mod Fields
 mod Bounds
+mod Edges
 mod Pass
 mod Walk
 mod Verdict

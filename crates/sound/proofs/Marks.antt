@@ -2,7 +2,7 @@
 use mathlib.Core.Path.{_≡_, refl, sym, ap, _∙_}
 use mathlib.Core.Bool.{Bool, true, false}
 use mathlib.Core.List.{List}
-use Prim.Native.Nat.{ℕ, suc, _+_, _-_, _*_, _%_, _≤_, _<_, max}
+use Prim.Native.Nat.{ℕ, suc, _+_, _-_, _*_, _%_, _≤_, _<_}
 use native.Mathlib.Omega.{arith}
 use native.Mathlib.Nat.{mul-le-mul-left, mod-lt, mod-eq-of-lt, mod-self, suc-mod}
 use native.Mathlib.Numerals.{add-one}
@@ -127,18 +127,11 @@ module _ (K : ℕ) (ks : List ℤ) (bs : List ℕ) (s m : ℕ) (slot : Slot m s)
 
 -- ---- `over`, `topped`
 
-module _ (h high low : ℕ) where
-  pub over-none : h ≡ 0 → Tells (Over h high low) false
-  over-none z = tells-no (Over h high low) (λ x. let t = x .top in omega arith)
-
-  pub over-not : (h - 1 ≡ high → ⊥) → Tells (Over h high low) false
-  over-not n = tells-no (Over h high low) (λ x. n (let t = x .top in omega arith))
-
-  pub over-by : (h ≡ 0 → ⊥) → h - 1 ≡ high → Tells (Over h high low) (ltb (high - low) 2)
-  over-by n e = record {
-    good = λ t. let g = ltb-true (high - low) 2 t in record { top = omega arith; near = omega arith };
-    bad = λ t x. let g = ltb-false (high - low) 2 t in let m = x .near in omega arith;
-  }
+pub over-by : (h a b : ℕ) → a < h → b < h → h - a ≤ 2 → h - b ≤ 2 → Tells (Over h a b) (ltb ((h - a) + (h - b)) 4)
+over-by h a b p q u v = record {
+  good = λ t. let g = ltb-true ((h - a) + (h - b)) 4 t in record { top = omega arith; near = (omega arith, omega arith) };
+  bad = λ t x. let g = ltb-false ((h - a) + (h - b)) 4 t in let k = x .top in let m = x .near in omega arith;
+}
 
 pub left-out : (ls : List ℕ) (C s l : ℕ) → l ≡ leftAt ls s → C < l → Tells (Tops ls C s) false
 left-out ls C s l e h = tells-no (Tops ls C s) (λ x. let g = x .leftIn in omega arith)
@@ -146,33 +139,12 @@ left-out ls C s l e h = tells-no (Tops ls C s) (λ x. let g = x .leftIn in omega
 pub right-out : (ls : List ℕ) (C s r : ℕ) → r ≡ rightAt ls s → C < r → Tells (Tops ls C s) false
 right-out ls C s r e h = tells-no (Tops ls C s) (λ x. let g = x .rightIn in omega arith)
 
-module _ (ls : List ℕ) (C s l r : ℕ) (el : l ≡ leftAt ls s) (er : r ≡ rightAt ls s) where
-  module _ (n h a b : ℕ) (slot : Slot n s) (eh : h ≡ tall ls s) (ea : a ≡ tall ls l) (eb : b ≡ tall ls r) where
-    tops : Tops ls C s → (h ≡ suc (max a b)) × (a ≤ suc b) × (b ≤ suc a)
-    tops x =
-        let t = x .top in
-        let m = x .near in
-        let f : h ≡ heightAt ls s = eh ∙ tall-slot ls s (slot-some n s slot) in
-        let p : a ≡ tall ls (leftAt ls s) = ea ∙ ap (tall ls) el in
-        let q : b ≡ tall ls (rightAt ls s) = eb ∙ ap (tall ls) er in
-        (omega arith, omega arith, omega arith)
-
-    topped : l ≤ C → r ≤ C → h ≡ suc (max a b) → a ≤ suc b → b ≤ suc a → Tops ls C s
-    topped hl hr t m k =
-        let f : h ≡ heightAt ls s = eh ∙ tall-slot ls s (slot-some n s slot) in
-        let p : a ≡ tall ls (leftAt ls s) = ea ∙ ap (tall ls) el in
-        let q : b ≡ tall ls (rightAt ls s) = eb ∙ ap (tall ls) er in
-        record { leftIn = omega arith; rightIn = omega arith; top = omega arith; near = (omega arith, omega arith) }
-
-    module _ (hl : l ≤ C) (hr : r ≤ C) (o : Bool) where
-      pub topped-up : a < b → Tells (Over h b a) o → Tells (Tops ls C s) o
-      topped-up u v = record {
-        good = λ e. let x = v .good e in let t = x .top in let m = x .near in topped hl hr (omega arith) (omega arith) m;
-        bad = λ e x. let y = tops x in v .bad e (record { top = omega arith; near = y .2 });
-      }
-
-      pub topped-down : b ≤ a → Tells (Over h a b) o → Tells (Tops ls C s) o
-      topped-down u v = record {
-        good = λ e. let x = v .good e in let t = x .top in let m = x .near in topped hl hr (omega arith) m (omega arith);
-        bad = λ e x. let y = tops x in v .bad e (record { top = omega arith; near = y .1 });
-      }
+pub topped-by : (ls : List ℕ) (C n s l r h a b : ℕ) → Slot n s → l ≡ leftAt ls s → r ≡ rightAt ls s → l ≤ C → r ≤ C → h ≡ tall ls s → a ≡ tall ls l → b ≡ tall ls r → (o : Bool) → Tells (Over h a b) o → Tells (Tops ls C s) o
+topped-by ls C n s l r h a b slot el er hl hr eh ea eb o v =
+    let f : h ≡ heightAt ls s = eh ∙ tall-slot ls s (slot-some n s slot) in
+    let p : a ≡ tall ls (leftAt ls s) = ea ∙ ap (tall ls) el in
+    let q : b ≡ tall ls (rightAt ls s) = eb ∙ ap (tall ls) er in
+    record {
+      good = λ e. let t = v .good e .top in let m = v .good e .near in record { leftIn = omega arith; rightIn = omega arith; top = omega arith; near = (omega arith, omega arith) };
+      bad = λ e x. let t = x .top in let m = x .near in v .bad e (record { top = omega arith; near = (omega arith, omega arith) });
+    }

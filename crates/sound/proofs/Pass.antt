@@ -6,7 +6,7 @@ use Prim.Native.Nat.{ℕ, suc, _+_, _-_, _*_, _≤_, _<_}
 use native.Mathlib.Omega.{arith}
 use lib.ListN.{length, getD, set, length-set}
 use lib.Seq.{set-set, set-getD}
-use lib.IntN.{ℤ}
+use lib.IntN.{ℤ, pos}
 use mir.Syntax.{w64}
 use mir.Val.{Fits}
 use Rattle.model.specs.Entry.{cutField}
@@ -18,9 +18,10 @@ use Rattle.cells.specs.Memory.{Rep}
 use Rattle.cells.proofs.Reps.{Node, open-node, close-node, tall-rep, rep-bound, unique}
 use Rattle.cells.proofs.Slots.{tall-slot}
 use Rattle.sound.specs.Parts.{Tells, nextCut}
-use Rattle.sound.specs.Tree.{Side, low, high, place, Beyond, Inside, Asked, Tops, Grown, Good, Judged}
+use Rattle.sound.specs.Tree.{Side, low, high, place, Beyond, Inside, Edged, Asked, Tops, Grown, Good, Judged}
 use Rattle.sound.proofs.Marks.{cut-next, next-below, slot-in, slot-long, slot-some, is-slot}
 use Rattle.sound.proofs.Bounds.{beyond, widen, narrow, place-in, set-fits}
+use Rattle.sound.proofs.Edges.{edged-set}
 
 -- the link that is followed under a bound of side d: across from it
 abbrev across : Side → List ℕ → ℕ → ℕ
@@ -121,12 +122,16 @@ module _ (S : Shape) (ks : List ℤ) (ls : List ℕ) (cut s left : ℕ) (bs : Li
   stays low v = v .rightIn
   stays high v = v .leftIn
 
-  pub side-ready : (d : Side) (t : ℕ) → 2 * tall ls s ≡ t → (o : Bool) → Tells (Tops ls (S .c) s) o → o ≡ true → (n : ℕ) → n ≡ nextCut K cut → (l : ℕ) → l ≡ across d ls s → (more : ℕ) → 1 ≤ more → (bs₂ : List ℕ) → bs₂ ≡ bs
-      → (2 * tall ls l + 1 < t) × (Asked S (length ks) (length ls) n more bs₂ × ((l ≤ S .c) × ((place d cut < 8) × (s ≤ S .c))))
-  side-ready d t et o v e n en l el more p bs₂ eb =
+  pub side-ready : (d : Side) (t : ℕ) → 2 * tall ls s ≡ t → (o : Bool) → Tells (Tops ls (S .c) s) o → o ≡ true → (n : ℕ) → n ≡ nextCut K cut → (l : ℕ) → l ≡ across d ls s → ¬ (l ≡ 0) → (more : ℕ) → 1 ≤ more → (bs₂ : List ℕ) → bs₂ ≡ bs
+      → {es : List ℤ} → Edged K ks bs es → (x : ℤ) → x ≡ getD (numbersOf K ks s) cut (pos 0) → (es₂ : List ℤ) → es₂ ≡ es
+      → (2 * tall ls l + 1 < t) × ((Asked S (length ks) (length ls) n more bs₂ × (Slot (length ls) l × ((place d cut < 8) × (s ≤ S .c)))) × Edged K ks (set bs₂ (place d cut) s) (set es₂ (place d cut) x))
+  side-ready d t et o v e n en l el nl more p bs₂ eb {es} edged x ex es₂ ee =
       let f : tall ls l < tall ls s = rw el (falls d (v .good e)) in (
         omega arith,
-        (record { room = asked .room; cutIn = next-below K cut n lt en; some = p; eight = rw eb eight; bounds = rw eb (asked .bounds) }, (rw el (stays d (v .good e)), (place-in d cut (let x = lt in let y = four in omega arith), slot-in S (length ks) (length ls) (asked .room) s slot))),
+        (
+          (record { room = asked .room; cutIn = next-below K cut n lt en; some = p; eight = rw eb eight; bounds = rw eb (asked .bounds) }, (is-slot S (length ks) (length ls) (asked .room) l nl (rw el (stays d (v .good e))), (place-in d cut (let x = lt in let y = four in omega arith), slot-in S (length ks) (length ls) (asked .room) s slot))),
+          rw (eb, ee) (edged-set d K ks bs es cut s x four lt eight ex edged),
+        ),
       )
 
   module _ (n : ℕ) (en : n ≡ nextCut K cut) where
@@ -207,12 +212,12 @@ module _ (S : Shape) (ks : List ℤ) (ls : List ℕ) (cut s left : ℕ) (bs : Li
 
 -- ---- what the pass asks of a side, and what it leaves
 
-pub pass-ready : (S : Shape) (ks : List ℤ) (ls : List ℕ) (cut s left : ℕ) (bs : List ℕ) (i from t : ℕ) → Asked S (length ks) (length ls) cut left bs → s ≤ S .c → i < 8 → from ≤ S .c → ¬ (s ≡ 0) → 2 * tall ls s + 1 ≡ t
-    → (2 * tall ls s < t) × (Asked S (length ks) (length ls) cut left (set bs i from) × Slot (length ls) s)
-pass-ready S ks ls cut s left bs i from t asked hs hi hf ne et = (
+pub pass-ready : (S : Shape) (ks : List ℤ) (ls : List ℕ) (cut s left : ℕ) (bs : List ℕ) (es : List ℤ) (i from t : ℕ) (x x₂ : ℤ) → Asked S (length ks) (length ls) cut left bs → Slot (length ls) s → i < 8 → from ≤ S .c → 2 * tall ls s + 1 ≡ t → Edged (S .k) ks (set bs i from) (set es i x) → x₂ ≡ x
+    → (2 * tall ls s < t) × (Asked S (length ks) (length ls) cut left (set bs i from) × (Slot (length ls) s × Edged (S .k) ks (set bs i from) (set es i x₂)))
+pass-ready S ks ls cut s left bs es i from t x x₂ asked slot hi hf et edged ex = (
   omega arith,
-  (record { room = asked .room; cutIn = asked .cutIn; some = asked .some; eight = length-set bs i from ∙ asked .eight; bounds = set-fits (S .c) bs i from (let e = asked .eight in omega arith) (asked .bounds) hf }, is-slot S (length ks) (length ls) (asked .room) s ne hs),
+  (record { room = asked .room; cutIn = asked .cutIn; some = asked .some; eight = length-set bs i from ∙ asked .eight; bounds = set-fits (S .c) bs i from (let e = asked .eight in omega arith) (asked .bounds) hf }, (slot, rw ex edged)),
 )
 
-pub put-back : (bs bs₂ : List ℕ) (i from : ℕ) → bs₂ ≡ set bs i from → set bs₂ i (getD bs i 0) ≡ bs
-put-back bs bs₂ i from e = rw e (set-set bs i from (getD bs i 0) ∙ set-getD bs i 0)
+pub put-back : {A : Type 0} (xs ys : List A) (i : ℕ) (x y d : A) → y ≡ getD xs i d → ys ≡ set xs i x → set ys i y ≡ xs
+put-back xs ys i x y d ey e = rw (e, ey) (set-set xs i x (getD xs i d) ∙ set-getD xs i d)

@@ -27,8 +27,9 @@ use Rattle.cells.specs.Slots.{Room, Slot, tall}
 use Rattle.cells.proofs.Reps.{lies-rep, open-nil, rep-lies, tall-rep, unique}
 use Rattle.sound.specs.Chain.{Free}
 use Rattle.sound.specs.Parts.{Tells, shapeOf}
-use Rattle.sound.specs.Tree.{Asked, Inside, Judged, Whole}
+use Rattle.sound.specs.Tree.{Asked, Edged, Inside, Judged, Whole}
 use Rattle.sound.proofs.Bounds.{open-fits, open-inside}
+use Rattle.sound.proofs.Edges.{open-edged}
 use Rattle.sound.proofs.Marks.{cut-self, is-slot, slot-long, tells-no}
 use Rattle.sound.proofs.Walk.{link-cells}
 
@@ -56,8 +57,8 @@ module _ (S : Shape) (ks : List ℤ) (ls : List ℕ) (root n : ℕ) (room : Room
       let b : tall ls root ≡ height (x .tree) = tall-rep (S .k) ks ls root (x .tree) (x .rep) in
       omega arith)
 
-  pub start : root ≤ S .c → (root ≡ 0 → ⊥) → Asked S (length ks) (length ls) 0 (n + 1) (replicate 8 0) × Slot (length ls) root
-  start h ne = (record { room = room; cutIn = room .kLow; some = omega arith; eight = refl; bounds = open-fits (S .c) }, is-slot S (length ks) (length ls) room root ne h)
+  pub start : root ≤ S .c → (root ≡ 0 → ⊥) → (es : List ℤ) → length es ≡ 8 → Asked S (length ks) (length ls) 0 (n + 1) (replicate 8 0) × (Slot (length ls) root × Edged (S .k) ks (replicate 8 0) es)
+  start h ne es he = (record { room = room; cutIn = room .kLow; some = omega arith; eight = refl; bounds = open-fits (S .c) }, (is-slot S (length ks) (length ls) room root ne h, open-edged (S .k) ks es he))
 
   pub whole-by : (r : ℕ) → Judged (S .k) ks ls 0 root (n + 1) (replicate 8 0) r → Tells W (eqb r 1)
   whole-by r j = record {

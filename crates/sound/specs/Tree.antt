@@ -1,10 +1,11 @@
 -- What the pass over the tree decides.
 use mathlib.Core.Path.{_≡_}
 use mathlib.Core.List.{List}
-use Prim.Native.Nat.{ℕ, suc, _+_, _≤_, _<_, max}
+use Prim.Native.Nat.{ℕ, suc, _+_, _≤_, _<_, max, Ordering·lt}
 use lib.ListN.{length, getD}
 use lib.IntN.{ℤ, pos}
 use Rattle.model.specs.Entry.{Entry, cutField}
+use Rattle.model.specs.Number.{order}
 use Rattle.model.specs.Tree.{Tree, size}
 use Rattle.model.specs.declared.Shape.{Shape}
 use Rattle.model.proofs.Trees.{All, Balanced, Even, Less, Ordered}
@@ -46,10 +47,22 @@ pub record Inside (K : ℕ) (ks : List ℤ) (bs : List ℕ) (e : Entry) : Type 0
 pub record BoundsIn (C : ℕ) (bs : List ℕ) : Type 0 where
   pub fits : (j : ℕ) → getD bs j 0 ≤ C
 
+abbrev pub Between : ℤ → ℤ → ℤ → Type 0
+Between a x b = (order a x ≡ Ordering·lt) × (order x b ≡ Ordering·lt)
+
+-- each of the first K numbers of an entry is between its two edges
+pub record Amid (K : ℕ) (es : List ℤ) (e : Entry) : Type 0 where
+  pub between : (c : ℕ) → c < K → Between (getD es (place low c) (pos 0)) (getD e c (pos 0)) (getD es (place high c) (pos 0))
+
+-- the edge of a side and a cut is its bound's number in the field of the cut; where there is no bound it is any
+pub record Edged (K : ℕ) (ks : List ℤ) (bs : List ℕ) (es : List ℤ) : Type 0 where
+  pub eight : length es ≡ 8
+  pub edge : (d : Side) (c : ℕ) → c < K → ¬ (getD bs (place d c) 0 ≡ 0) → getD es (place d c) (pos 0) ≡ getD (numbersOf K ks (getD bs (place d c) 0)) c (pos 0)
+
 -- h is one more than the higher of two that are even enough
-pub record Over (h high low : ℕ) : Type 0 where
-  pub top : h ≡ suc high
-  pub near : high ≤ suc low
+pub record Over (h a b : ℕ) : Type 0 where
+  pub top : h ≡ suc (max a b)
+  pub near : Even a b
 
 -- what can be said of the links of slot s
 pub record Tops (ls : List ℕ) (C s : ℕ) : Type 0 where

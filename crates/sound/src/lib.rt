@@ -1,4 +1,4 @@
-// Whether a pool is sound: one pass over its tree, one walk along its free chain, and no memory but eight bounds.
+// Whether a pool is sound: one pass over its tree, one walk along its free chain, and no memory but eight bounds and their edges.
 pub mod chain;
 pub mod tree;
 

@@ -7,7 +7,7 @@ ghost use lib.IntN.{pos};
 ghost use Rattle.model.specs.Number.{order};
 ghost use Rattle.cells.specs.Slots.{Room, Slot, numbersOf};
 ghost use Rattle.sound.specs.Parts.{Tells, nextCut};
-ghost use Rattle.sound.specs.Tree.{First, Before, Inside, BoundsIn, Over, Tops, Judged, Asked, Whole};
+ghost use Rattle.sound.specs.Tree.{First, Before, Inside, BoundsIn, Between, Amid, Edged, Over, Tops, Judged, Asked, Whole};
 
 // Whether the number at i is less than the one at j.
 pub fn less(keys: &[i64], i: usize, j: usize) -> bool
@@ -77,6 +77,44 @@ pub fn inside(keys: &[i64], shape: Shape, s: usize, bounds: &[usize; 8]) -> bool
     true
 }
 
+// Whether a number is more than one and less than another.
+pub fn between(low: i64, x: i64, high: i64) -> bool
+    ensures { λ r. ⌜ Tells (Between low x high) r ⌝ }
+{
+    if low < x {
+        return x < high;
+    }
+    false
+}
+
+// Whether slot s is amid the edges: each of its numbers between the lower one at i and the upper one at 4 + i.
+pub fn amid(keys: &[i64], shape: Shape, s: usize, edges: &[i64; 8]) -> bool
+    requires { ⌜ Room shape (length (now keys)) (3 * shape .c) × Slot (3 * shape .c) s ⌝ }
+    ensures { λ r. ⌜ Tells (Amid (shape .k) (now (edges .entry)) (numbersOf (shape .k) (now (keys .entry)) s)) r ⌝ }
+{
+    let mut i: usize = 0;
+    while i < shape.k {
+        let x = cells::slot::number_at(keys, shape, s, i);
+        if !between(edges[i], x, edges[4 + i]) {
+            return false;
+        }
+        i += 1;
+    }
+    true
+}
+
+// Whether slot s is inside the bounds. Their edges, their numbers in the fields of their cuts, tell nearly always; a tie asks for the rest.
+pub fn enclosed(keys: &[i64], shape: Shape, s: usize, edges: &[i64; 8], bounds: &[usize; 8]) -> bool
+    requires { ⌜ Room shape (length (now keys)) (3 * shape .c) × (Slot (3 * shape .c) s × BoundsIn (shape .c) (now bounds)) ⌝ }
+    requires { ⌜ Edged (shape .k) (now keys) (now bounds) (now edges) ⌝ }
+    ensures { λ r. ⌜ Tells (Inside (shape .k) (now (keys .entry)) (now (bounds .entry)) (numbersOf (shape .k) (now (keys .entry)) s)) r ⌝ }
+{
+    if amid(keys, shape, s, edges) {
+        return true;
+    }
+    inside(keys, shape, s, bounds)
+}
+
 // The cut one level deeper.
 pub fn next_cut(k: usize, cut: usize) -> usize
     requires { ⌜ cut < k ⌝ }
@@ -85,18 +123,24 @@ pub fn next_cut(k: usize, cut: usize) -> usize
     if cut + 1 == k { 0 } else { cut + 1 }
 }
 
-// Whether h is the height over sides of which one is low and one, no lower, is high.
-pub fn over(h: usize, high: usize, low: usize) -> bool
-    requires { ⌜ low ≤ high ⌝ }
-    ensures { λ r. ⌜ Tells (Over h high low) r ⌝ }
+// Whether h is the height over sides of heights a and b that are even enough: it is 1 or 2 above each, and not 2 above both.
+// No branch asks which side is higher: that is nothing that a machine could guess.
+pub fn over(h: usize, a: usize, b: usize) -> bool
+    ensures { λ r. ⌜ Tells (Over h a b) r ⌝ }
 {
-    if h == 0 {
+    if h <= a {
         return false;
     }
-    if h - 1 != high {
+    if h <= b {
         return false;
     }
-    high - low < 2
+    if 2 < h - a {
+        return false;
+    }
+    if 2 < h - b {
+        return false;
+    }
+    (h - a) + (h - b) < 4
 }
 
 // Whether the links of slot s stay in the pool, and its height is the one over two sides that are even enough.
@@ -115,7 +159,7 @@ pub fn topped(links: &[usize], c: usize, s: usize) -> bool
     let h = cells::slot::height_of(links, s);
     let a = cells::slot::height_of(links, l);
     let b = cells::slot::height_of(links, r);
-    if a < b { over(h, b, a) } else { over(h, a, b) }
+    over(h, a, b)
 }
 
 // What hangs at slot s. `left` is one more than the entries that may still be met, and so is the answer; 0 says no.
@@ -126,11 +170,12 @@ pub fn pass(
     s: usize,
     cut: usize,
     left: usize,
+    edges: &mut [i64; 8],
     bounds: &mut [usize; 8],
     shape: Shape,
 ) -> usize
-    requires { ⌜ Asked shape (length (now keys)) (length (now links)) cut left (now bounds) × Slot (length (now links)) s ⌝ }
-    ensures { λ r. ⌜ Judged (shape .k) (now (keys .entry)) (now (links .entry)) cut s left (now (bounds .entry)) r × (now (bounds .exit) ≡ now (bounds .entry)) ⌝ }
+    requires { ⌜ Asked shape (length (now keys)) (length (now links)) cut left (now bounds) × (Slot (length (now links)) s × Edged (shape .k) (now keys) (now bounds) (now edges)) ⌝ }
+    ensures { λ r. ⌜ Judged (shape .k) (now (keys .entry)) (now (links .entry)) cut s left (now (bounds .entry)) r × ((now (bounds .exit) ≡ now (bounds .entry)) × (now (edges .exit) ≡ now (edges .entry))) ⌝ }
 {
     if left == 1 {
         return 0;
@@ -138,7 +183,7 @@ pub fn pass(
     if !topped(links, shape.c, s) {
         return 0;
     }
-    if !inside(keys, shape, s, bounds) {
+    if !enclosed(keys, shape, s, edges, bounds) {
         return 0;
     }
     let l = cells::slot::left_of(links, s);
@@ -147,36 +192,56 @@ pub fn pass(
         return left - 1;
     }
     let next = next_cut(shape.k, cut);
-    let rest = side(keys, links, l, next, left - 1, bounds, shape, 4 + cut, s);
-    if rest == 0 {
-        return 0;
+    let x = cells::slot::number_at(keys, shape, s, cut);
+    let mut rest = left - 1;
+    if l != 0 {
+        let up = 4 + cut;
+        rest = side(keys, links, l, next, rest, edges, bounds, shape, up, s, x);
+        if rest == 0 {
+            return 0;
+        }
     }
-    side(keys, links, r, next, rest, bounds, shape, cut, s)
+    if r == 0 {
+        return rest;
+    }
+    side(keys, links, r, next, rest, edges, bounds, shape, cut, s, x)
 }
 
-// What hangs at s, 0 for nothing, with `from` as the bound at one place: set before, put back after.
+// What hangs at slot s, with `from` as the bound and its number as the edge at one place: set before, put back after.
 pub fn side(
     keys: &[i64],
     links: &[usize],
     s: usize,
     cut: usize,
     left: usize,
+    edges: &mut [i64; 8],
     bounds: &mut [usize; 8],
     shape: Shape,
     at: usize,
     from: usize,
+    edge: i64,
 ) -> usize
-    requires { ⌜ Asked shape (length (now keys)) (length (now links)) cut left (now bounds) × ((s ≤ shape .c) × ((at < 8) × (from ≤ shape .c))) ⌝ }
-    ensures { λ r. ⌜ Judged (shape .k) (now (keys .entry)) (now (links .entry)) cut s left (set (now (bounds .entry)) at from) r × (now (bounds .exit) ≡ now (bounds .entry)) ⌝ }
+    requires { ⌜ Asked shape (length (now keys)) (length (now links)) cut left (now bounds) × (Slot (length (now links)) s × ((at < 8) × (from ≤ shape .c))) ⌝ }
+    requires { ⌜ Edged (shape .k) (now keys) (set (now bounds) at from) (set (now edges) at edge) ⌝ }
+    ensures { λ r. ⌜ Judged (shape .k) (now (keys .entry)) (now (links .entry)) cut s left (set (now (bounds .entry)) at from) r × ((now (bounds .exit) ≡ now (bounds .entry)) × (now (edges .exit) ≡ now (edges .entry))) ⌝ }
 {
-    if s == 0 {
-        return left;
-    }
     let old = bounds[at];
+    let was = edges[at];
     bounds[at] = from;
-    let rest = pass(keys, links, s, cut, left, bounds, shape);
+    edges[at] = edge;
+    let rest = pass(keys, links, s, cut, left, edges, bounds, shape);
     bounds[at] = old;
+    edges[at] = was;
     rest
+}
+
+// Edges where there are no bounds yet: no number is beyond them.
+pub fn open_edges() -> [i64; 8]
+    ensures { λ r. ⌜ length r ≡ 8 ⌝ }
+{
+    let low = i64::MIN;
+    let high = i64::MAX;
+    [low, low, low, low, high, high, high, high]
 }
 
 // Whether the tree at the root is right and has n entries. Its height is at most 16 and heights fall: no deeper does the pass go.
@@ -190,6 +255,7 @@ pub fn tree_right(keys: &[i64], links: &[usize], shape: Shape, root: usize, n: u
     if 16 < cells::slot::height_of(links, root) {
         return false;
     }
+    let mut edges = open_edges();
     let mut bounds = [0usize; 8];
-    pass(keys, links, root, 0, n + 1, &mut bounds, shape) == 1
+    pass(keys, links, root, 0, n + 1, &mut edges, &mut bounds, shape) == 1
 }

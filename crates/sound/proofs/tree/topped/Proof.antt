@@ -27,14 +27,8 @@ height-of-requires-3 c κs = search needs
 over-requires : tie.Need-over-requires
 over-requires c κs = search needs
 
-over-requires-2 : tie.Need-over-requires-2
-over-requires-2 c κs = search needs
-
 returns-3 : tie.Need-returns-3
-returns-3 c = search marks.topped-up
-
-returns-4 : tie.Need-returns-4
-returns-4 c = search marks.topped-down
+returns-3 c = search marks.topped-by
 
 pub topped-spec : {M : Type 1} → statement M
 topped-spec =
@@ -48,6 +42,4 @@ topped-spec =
     height-of-requires-2
     height-of-requires-3
     over-requires
-    over-requires-2
-    returns-3
-    returns-4)
+    returns-3)
