@@ -43,7 +43,7 @@ done
 program instructions 16
 valgrind -q --tool=callgrind --instr-atstart=no --callgrind-out-file="$out/count" "$out/instructions" 2>/dev/null
 awk -f bench/counts.awk "$out"/count.* >>"$out/lines"
-for bytes in 16 48; do
+for bytes in 16 32 48 64; do
     program peers $bytes
     "$out/peers" >>"$out/lines"
 done
