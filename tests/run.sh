@@ -17,7 +17,8 @@ every_crate_listed() {
     done
 }
 proved() { # the prover's gate, which counts crates, must-fail edits and programs
-    rt ci >"$logs/proofs" 2>&1; status=$?
+    # Four at a time, also on two processors: of a pair of unequal length one would leave its processor idle.
+    RT_JOBS=4 rt ci >"$logs/proofs" 2>&1; status=$?
     cat "$logs/proofs"
     last=$(tail -n 1 "$logs/proofs")
     case $last in
