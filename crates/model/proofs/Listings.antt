@@ -24,7 +24,7 @@ use Rattle.model.proofs.Sides.{There}
 use Rattle.model.proofs.Strikes.{PermE, of-entries, strike-entries, strike-gone, to-entries}
 use Rattle.model.proofs.Trees.{All, AllL, Ordered}
 
-isEq-true : (o : Ordering) → isEq o ≡ true → o ≡ Ordering·eq
+pub isEq-true : (o : Ordering) → isEq o ≡ true → o ≡ Ordering·eq
 isEq-true Ordering·lt h = absurd (false≢true h)
 isEq-true Ordering·eq h = refl
 isEq-true Ordering·gt h = absurd (false≢true h)
@@ -33,7 +33,7 @@ pub or-false : (a b : Bool) → (a || b) ≡ false → (a ≡ false) × (b ≡ f
 or-false true b h = absurd (true≢false h)
 or-false false b h = (refl, h)
 
-unlike-not : (e x : Entry) → Unlike e x → isEq (cmp 0 e x) ≡ false
+pub unlike-not : (e x : Entry) → Unlike e x → isEq (cmp 0 e x) ≡ false
 unlike-not e x u = go (cmp 0 e x) refl
   where
     go : (o : Ordering) → cmp 0 e x ≡ o → isEq (cmp 0 e x) ≡ false

@@ -16,7 +16,7 @@ use Rattle.model.proofs.Lists.{Every, every-join, every-map}
 use Rattle.model.proofs.Trees.{both, pair}
 
 -- writing, then reading: a number
-digit-step : (b n : ℕ) (bs : List ℕ) → 48 ≤ b → b ≤ 57 → digits (b ∷ bs) n ≡ digits bs (n * 10 + (b - 48))
+pub digit-step : (b n : ℕ) (bs : List ℕ) → 48 ≤ b → b ≤ 57 → digits (b ∷ bs) n ≡ digits bs (n * 10 + (b - 48))
 digit-step b n bs g h = rw (pair (le-leb 48 b g) (le-leb b 57 h), digits) refl
 
 digit-stop : (b n : ℕ) (bs : List ℕ) → b < 48 → digits (b ∷ bs) n ≡ (n, b ∷ bs)

@@ -19,7 +19,7 @@ numbers-length : (k : ℕ) (bs : List ℕ) → length (numbers k bs) ≡ k
 numbers-length zero bs = refl
 numbers-length (suc k) bs = ap suc (numbers-length k (drop 1 (number (drop 2 bs) .1)))
 
-line-length : (K : ℕ) (l : List ℕ) (e : Entry) → entryOfLine K l ≡ some e → length e ≡ K
+pub line-length : (K : ℕ) (l : List ℕ) (e : Entry) → entryOfLine K l ≡ some e → length e ≡ K
 unfolding entryOfLine
 line-length K l e h = go (same (pairs 97 (numbers K l)) l && ranged (numbers K l)) h
   where

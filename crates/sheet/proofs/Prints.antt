@@ -1,7 +1,7 @@
 -- The book written to a room: its slots gathered and ranked, and their text.
 use mathlib.Core.Path.{_≡_, refl, sym, ap, subst, _∙_}
 use mathlib.Core.Bool.{true, false, true≢false}
-use mathlib.Core.List.{List, [], _∷_, _++_}
+use mathlib.Core.List.{List, _++_}
 use Prim.Native.Nat.{ℕ, _+_, _-_, _≤_, _<_}
 use native.Mathlib.Omega.{arith}
 use native.Mathlib.Nat.{zero-add}
@@ -16,6 +16,7 @@ use Rattle.model.proofs.Strikes.{slots}
 use Rattle.cells.specs.Slots.{Room}
 use Rattle.cells.specs.Memory.{Rep}
 use Rattle.print.specs.Place.{written}
+use Rattle.ask.proofs.Listed.{slots-length}
 use Rattle.ask.specs.Standing.{Stands, Standing}
 use Rattle.rank.specs.Ranking.{itemsAt, InTables, Ranked}
 use Rattle.build.specs.Rebuilding.{Fitting, Gathered}
@@ -24,10 +25,6 @@ use Rattle.build.proofs.Shapes.{items-held}
 use Rattle.sheet.specs.Saving.{textIn, Measured, PrintedWith}
 use Rattle.sheet.specs.declared.saving.Printed.{Printed}
 use Rattle.sheet.proofs.Fills.{rep-tables}
-
-slots-many : (is : List Item) → length (slotsOf is) ≡ length is
-slots-many [] = refl
-slots-many (i ∷ is) = rw (slots-many is) refl
 
 -- ranked slots of a tree that lies in memory are its entries in listing order
 ranked-text : (K : ℕ) (ks : List ℤ) (ls : List ℕ) (s : ℕ) (u : Tree) → Rep K ks ls s u → textIn K ks (slotsOf (rank 0 (itemsAt K ks (slots u)))) ≡ textOf K (listing u)
@@ -38,7 +35,7 @@ ranked-text K ks ls s u h =
 
 module _ (S : Shape) (ks : List ℤ) (ls : List ℕ) (root : ℕ) (m : Room S (length ks) (length ls)) (st : Standing (S .k) ks ls root 0 (S .c)) where
   few : length (slots (st .tree)) ≤ S .c
-  few = let a = slots-many (items (st .tree)) in let b = st .few in omega arith
+  few = let a = slots-length (items (st .tree)) in let b = st .few in omega arith
 
   pub print-gathers : (xs : List ℕ) → length xs ≡ S .c → (0 ≤ length xs) × Fitting ls root (length xs - 0)
   print-gathers xs l = (omega arith, record { K = S .k; ks = ks; tree = st .tree; rep = st .stands .rep; enough = let a = few in omega arith })

@@ -2,7 +2,7 @@
 use mathlib.Core.Path.{_≡_, refl, sym, ap, subst, _∙_}
 use mathlib.Core.Bool.{Bool, true, false, _&&_}
 use mathlib.Core.List.{List, [], _∷_}
-use Prim.Native.Nat.{ℕ, zero, suc, _+_, _-_, _^_, _≤_, _<_, Ordering, Ordering·lt, Ordering·eq, Ordering·gt}
+use Prim.Native.Nat.{ℕ, zero, suc, _+_, _-_, _^_, _≤_, _<_}
 use native.Mathlib.Omega.{arith}
 use native.Mathlib.Numerals.{add-one, sub-one}
 use borrow.Author.Tests.{eqb-true, eqb-false, eq-eqb, ne-eqb, leb-true, le-leb}
@@ -19,6 +19,7 @@ use Rattle.model.specs.Book.{Cell}
 use Rattle.model.specs.Pool.{cellOf, inPool, strung, zeros}
 use Rattle.model.proofs.Orders.{order-eq}
 use Rattle.model.proofs.Trees.{both, pair}
+use Rattle.model.proofs.Listings.{isEq-true}
 use Rattle.cells.specs.Slots.{Slot, leftAt, rightAt, heightAt, tall, addressOf, numbersOf}
 use Rattle.cells.proofs.Slots.{tall-slot}
 use Rattle.sound.specs.Parts.{Tells}
@@ -29,11 +30,6 @@ use Rattle.sound.proofs.Marks.{clash, tells-no, slot-some}
 
 pub zero-told : (x : ℤ) → SFits w64 x → Tells (x ≡ pos 0) (eqb (ofZ w64 x) 0)
 zero-told x f = record { good = λ t. sym (toZ-ofZ w64 x f) ∙ ap (toZ w64) (eqb-true (ofZ w64 x) 0 t); bad = λ t e. eqb-false (ofZ w64 x) 0 t (ap (ofZ w64) e) }
-
-is-eq : (o : Ordering) → isEq o ≡ true → o ≡ Ordering·eq
-is-eq Ordering·lt e = clash (sym e)
-is-eq Ordering·eq e = refl
-is-eq Ordering·gt e = clash (sym e)
 
 past : (a : List ℤ) (i : ℕ) → length a ≤ i → zeros (drop i a) ≡ true
 past [] zero h = refl
@@ -59,7 +55,7 @@ module _ (a : List ℤ) (i : ℕ) (all : zeros a ≡ zeros (drop i a)) where
     zeros-not e = go (isEq (order (getD a i (pos 0)) (pos 0))) refl
       where
         go : (o : Bool) → isEq (order (getD a i (pos 0)) (pos 0)) ≡ o → false ≡ zeros a
-        go true q = absurd (t .bad e (read ∙ order-eq (getD a i (pos 0)) (pos 0) (is-eq (order (getD a i (pos 0)) (pos 0)) q)))
+        go true q = absurd (t .bad e (read ∙ order-eq (getD a i (pos 0)) (pos 0) (isEq-true (order (getD a i (pos 0)) (pos 0)) q)))
         go false q = sym (step ∙ ap (λ x. x && zeros (drop (i + 1) a)) q)
 
 -- ---- a cleared slot

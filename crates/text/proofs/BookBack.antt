@@ -2,7 +2,7 @@
 use mathlib.Core.Path.{_≡_, refl, sym, ap, ap₂, _∙_}
 use mathlib.Core.List.{List, [], _∷_, _++_}
 use mathlib.Core.Option.{Option, none, some}
-use mathlib.Core.Bool.{Bool, true, false, not, _&&_}
+use mathlib.Core.Bool.{Bool, true, false, not}
 use Prim.Native.Nat.{ℕ, zero, suc, _+_, _-_, _≤_, _<_}
 use native.Mathlib.Omega.{arith}
 use lib.Dec.{eqb}
@@ -10,9 +10,9 @@ use lib.IntN.{ℤ}
 use lib.ListN.{length, getD, take, drop, drop-of-length-le}
 use borrow.Author.Tests.{eq-eqb, eqb-false, eqb-true, ne-eqb, not-false, not-true}
 use Rattle.model.specs.Entry.{Entry}
-use Rattle.model.specs.Text.{Parsed, body, broken, cutLine, entryOfLine, following, number, numbers, pairs, ranged, rises, same, saved}
+use Rattle.model.specs.Text.{Parsed, body, broken, cutLine, entryOfLine, following, pairs, rises, saved}
 use Rattle.model.proofs.Prints.{Parted, cut-back, cut-join, entry-back, entry-line, pairs-high}
-use Rattle.model.proofs.Texts.{body-by, body-step}
+use Rattle.model.proofs.Texts.{body-by, body-step, line-length}
 use Rattle.text.specs.Strict.{lineAt}
 use Rattle.text.specs.Told.{lastOf, summed, LineRead, Stands}
 use Rattle.text.specs.declared.Saved.{Saved}
@@ -54,18 +54,6 @@ module _ (text : List ℕ) (at : ℕ) (inv : behind (drop at text) ≡ behind te
   entry-nowhere h c q = let e = drop-of-length-le text h in e ∙ ap behind (sym e) ∙ inv ∙ behind-join (c .0) (c .1) text q
 
 -- one entry line
-numbers-size : (k : ℕ) (bs : List ℕ) → length (numbers k bs) ≡ k
-numbers-size zero bs = refl
-numbers-size (suc k) bs = ap suc (numbers-size k (drop 1 (number (drop 2 bs) .1)))
-
-line-size : (K : ℕ) (l : List ℕ) (e : Entry) → entryOfLine K l ≡ some e → length e ≡ K
-unfolding entryOfLine
-line-size K l e h = go (same (pairs 97 (numbers K l)) l && ranged (numbers K l)) h
-  where
-    go : (o : Bool) → _≡_ {A = Option Entry} (elim o as (λ x. Option Entry) [ true ↦ some (numbers K l) | false ↦ none ]) (some e) → length e ≡ K
-    go true q = let z : numbers K l ≡ e = cc in rw (← z) (numbers-size K l)
-    go false q = not-none q
-
 module _ (m K line : ℕ) (last : Option Entry) (bs : List ℕ) (low : 1 ≤ K) where
   body-bad : lineAt K 97 bs ≡ none → body (suc m) K line last bs ≡ broken line
   body-bad q = body-by (λ p. p ≡ broken line) m K line last bs (λ x. refl) (λ c x y. refl) (λ c e x y z. refl) never
@@ -74,7 +62,7 @@ module _ (m K line : ℕ) (last : Option Entry) (bs : List ℕ) (low : 1 ≤ K) 
       never c e x y z =
           let l = entry-line K (c .0) e y in
           let p : bs ≡ pairs 97 e ++ (10 ∷ c .1) = rw (l .0) (cut-join bs c x) in
-          let s : Stands bs K e (c .1) = record { printed = p; sized = line-size K (c .0) e y; in-range = l .1 } in
+          let s : Stands bs K e (c .1) = record { printed = p; sized = line-length K (c .0) e y; in-range = l .1 } in
           not-none (sym q ∙ stands-line K bs e (c .1) low s)
 
   module _ (e : Entry) (r : List ℕ) (q : lineAt K 97 bs ≡ some (e, r)) where

@@ -10,8 +10,8 @@ use lib.IntN.{ℤ, pos, negsuc}
 use borrow.Author.Tests.{eqb-false, eqb-true, le-leb, leb-true, lt-ltb, ltb-false, ltb-true}
 use Rattle.model.specs.Number.{inRange}
 use Rattle.model.specs.Text.{decimal, digits, signed}
-use Rattle.model.proofs.Prints.{decimal-back}
-use Rattle.model.proofs.Trees.{both, pair}
+use Rattle.model.proofs.Prints.{decimal-back, digit-step}
+use Rattle.model.proofs.Trees.{both}
 use Rattle.text.specs.Strict.{Decimally, above, below, capped, decimalAt, grown, numberAt, small}
 use Rattle.print.proofs.Decimals.{decimal-behind, decimal-more, decimal-one}
 use Rattle.text.proofs.Readings.{above-is, below-is, capped-step, capped-stop, decimal-by, grown-cap, grown-more, minus-at, not-none, plain-at, some-at, unsome, zero-at}
@@ -22,9 +22,6 @@ Stops [] = Unit {0}
 Stops (b ∷ bs) = b < 48
 
 -- the model's reading of digits
-digits-step : (b n : ℕ) (bs : List ℕ) → 48 ≤ b → b ≤ 57 → digits (b ∷ bs) n ≡ digits bs (n * 10 + (b - 48))
-digits-step b n bs g h = rw (pair (le-leb 48 b g) (le-leb b 57 h), digits) refl
-
 digits-stop : (b n : ℕ) (bs : List ℕ) → (leb 48 b && leb b 57) ≡ false → digits (b ∷ bs) n ≡ (n, b ∷ bs)
 digits-stop b n bs h = rw (h, digits) refl
 
@@ -57,7 +54,7 @@ capped-kept (b ∷ bs) n m k = go (leb 48 b && leb b 57) refl (λ d h. capped-ke
         let t = both (leb 48 b) (leb b 57) e in
         let g = leb-true 48 b (t .0) in
         let h = leb-true b 57 (t .1) in
-        rw (digits-step b n bs g h, capped-step b m bs g h) (ih (b - 48) (omega arith))
+        rw (digit-step b n bs g h, capped-step b m bs g h) (ih (b - 48) (omega arith))
     go false e ih = rw (digits-stop b n bs e, capped-stop b m bs e) (refl, k)
 
 -- both read the same, where either stays small
@@ -89,7 +86,7 @@ digits-print (b ∷ bs) w h = go (leb 48 b && leb b 57) refl (λ d. digits-print
         let t = both (leb 48 b) (leb b 57) e in
         let g = leb-true 48 b (t .0) in
         let l = leb-true b 57 (t .1) in
-        ap (λ (d : ℕ × List ℕ). decimal (d .0) ++ d .1) (digits-step b w bs g l)
+        ap (λ (d : ℕ × List ℕ). decimal (d .0) ++ d .1) (digit-step b w bs g l)
         ∙ ih (b - 48) (omega arith)
         ∙ ap (λ x. x ++ bs) (decimal-behind w b h g l)
         ∙ append-assoc (decimal w) (b ∷ []) bs
@@ -143,7 +140,7 @@ decimal-complete (suc v) r h s =
     let z : 0 * 10 + (b - 48) ≡ b - 48 = omega arith in
     let p : decimal (suc v) ++ r ≡ b ∷ (i .rest ++ r) = ap (λ x. x ++ r) (i .is) in
     let q : digits (b ∷ (i .rest ++ r)) 0 ≡ (suc v, r) = ap (λ x. digits x 0) (sym p) ∙ decimal-back (suc v) r s in
-    let d : digits (i .rest ++ r) (b - 48) ≡ (suc v, r) = ap (digits (i .rest ++ r)) (sym z) ∙ sym (digits-step b 0 (i .rest ++ r) l (i .high)) ∙ q in
+    let d : digits (i .rest ++ r) (b - 48) ≡ (suc v, r) = ap (digits (i .rest ++ r)) (sym z) ∙ sym (digit-step b 0 (i .rest ++ r) l (i .high)) ∙ q in
     let c : capped (i .rest ++ r) (b - 48) ≡ (suc v, r) = same-capped (i .rest ++ r) (b - 48) (suc v) r h d in
     ap decimalAt p ∙ some-at b (i .rest ++ r) n l (i .high) ∙ ap small c ∙ rw (le-leb (suc v) 9223372036854775808 h, small) refl
 

@@ -26,7 +26,7 @@ use Rattle.model.proofs.Books.{Valid}
 use Rattle.model.proofs.Gates.{gate-none}
 use Rattle.model.proofs.Goods.{within-by, within-length}
 use Rattle.model.proofs.Items.{Wide, entryIn, worked-good}
-use Rattle.model.proofs.Listings.{false-has, has-false, has-true, listing-all, listing-length}
+use Rattle.model.proofs.Listings.{false-has, has-false, has-true, listing-all, listing-length, unlike-not}
 use Rattle.model.proofs.Orders.{cmp-eq, cmp-refl}
 use Rattle.model.proofs.Passes.{Fit}
 use Rattle.model.proofs.Ranks.{Unlike}
@@ -51,9 +51,6 @@ or-again false c = refl
 same-entry : (e : Entry) → isEq (cmp 0 e e) ≡ true
 same-entry e = ap isEq (cmp-refl 0 e)
 
-other-entry : (e x : Entry) → Unlike e x → isEq (cmp 0 e x) ≡ false
-other-entry e x u = or-none (isEq (cmp 0 e x)) (false-has e (x ∷ []) (u, tt))
-
 -- ---- the plain set after one entry more, one less
 
 has-within : (e x : Entry) (es : List Entry) → has e (within x es) ≡ (isEq (cmp 0 e x) || has e es)
@@ -70,7 +67,7 @@ has-without e x (y ∷ ys) u = go (cmp 0 x y) refl (ap (λ z. isEq (cmp 0 e y) |
   where
     go : (o : Ordering) → cmp 0 x y ≡ o → has e (y ∷ without x ys) ≡ has e (y ∷ ys) → has e (without x (y ∷ ys)) ≡ has e (y ∷ ys)
     go Ordering·lt q h = rw (q, without) h
-    go Ordering·eq q h = let d : isEq (cmp 0 e y) ≡ false = other-entry e y (λ w. u (w ∙ sym (cmp-eq 0 x y q))) in rw (q, without) (rw d refl)
+    go Ordering·eq q h = let d : isEq (cmp 0 e y) ≡ false = unlike-not e y (λ w. u (w ∙ sym (cmp-eq 0 x y q))) in rw (q, without) (rw d refl)
     go Ordering·gt q h = rw (q, without) h
 
 -- ---- the book after an item that is not wrong
@@ -88,7 +85,7 @@ module _ (K C : ℕ) (fit : Fit K C) (b : Book) (v : Valid K C b) where
           false-has x (listing (struck x b .tree)) (listing-all (Unlike x) (struck x b .tree) (strike-gone 0 x (b .tree) (v .ordered) (λ a. has-true x (listing (b .tree)) q (listing-all (Unlike x) (b .tree) a))))
 
       kept : Unlike e x → has e (listing (struck x b .tree)) ≡ (not (isEq (cmp 0 e x)) && has e (listing (b .tree)))
-      kept u = ap (has e) (worked-good K C fit b v (striking x) n g .1) ∙ has-without e x (listing (b .tree)) u ∙ sym (ap (λ z. not z && has e (listing (b .tree))) (other-entry e x u))
+      kept u = ap (has e) (worked-good K C fit b v (striking x) n g .1) ∙ has-without e x (listing (b .tree)) u ∙ sym (ap (λ z. not z && has e (listing (b .tree))) (unlike-not e x u))
 
       unlike : (o : Ordering) → isEq o ≡ false → cmp 0 e x ≡ o → Unlike e x
       unlike o z q w = let t : true ≡ false = sym (same-entry e) ∙ ap (λ y. isEq (cmp 0 e y)) w ∙ ap isEq q ∙ z in let m : _≡_ {A = ℕ} 0 1 = cc in omega arith
@@ -128,8 +125,8 @@ after-same e (adding x) z q = ap (λ y. y || z) (ap (λ y. isEq (cmp 0 e y)) q �
 after-same e (striking x) z q = ap (λ y. not y && z) (ap (λ y. isEq (cmp 0 e y)) q ∙ same-entry e)
 
 after-other : (e : Entry) (w : Work) (z : Bool) → ¬ (entryIn w ≡ e) → thereAfter e w z ≡ z
-after-other e (adding x) z n = ap (λ y. y || z) (other-entry e x (λ q. n (sym q)))
-after-other e (striking x) z n = ap (λ y. not y && z) (other-entry e x (λ q. n (sym q)))
+after-other e (adding x) z n = ap (λ y. y || z) (unlike-not e x (λ q. n (sym q)))
+after-other e (striking x) z n = ap (λ y. not y && z) (unlike-not e x (λ q. n (sym q)))
 
 pub entry-long : (K : ℕ) (xs : List ℤ) (i : ℕ) → i * (K + 1) + (K + 1) ≤ length xs → length (entryAt K xs i) ≡ K
 entry-long K xs i l = length-take-le K (drop (i * (K + 1) + 1) xs) (simp length-drop (omega arith))

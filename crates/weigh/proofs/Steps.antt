@@ -9,6 +9,7 @@ use lib.Dec.{eqb}
 use lib.ListN.{length, getD, take}
 use borrow.Author.Tests.{eq-eqb, ne-eqb}
 use Rattle.model.specs.Calls.{anyZero}
+use Rattle.model.proofs.Listings.{or-false}
 
 -- met at place i
 pub zero-at : (ss : List ℕ) (k i : ℕ) → i < k → i < length ss → getD ss i 0 ≡ 0 → anyZero (take k ss) ≡ true
@@ -25,14 +26,10 @@ zero-at (s ∷ ss) (suc k) (suc i) h l e = go (eqb s 0) (zero-at ss k i (omega a
 pub zero-on : (ss : List ℕ) (i : ℕ) → i < length ss → anyZero (take i ss) ≡ false → ¬ (getD ss i 0 ≡ 0) → anyZero (take (i + 1) ss) ≡ false
 zero-on ss i l e n = rw add-one (go ss i l e n)
   where
-    or-first : (a b : Bool) → (a || b) ≡ false → (a ≡ false) × (b ≡ false)
-    or-first true b e = absurd (true≢false e)
-    or-first false b e = (refl, e)
-
     go : (ss : List ℕ) (i : ℕ) → i < length ss → anyZero (take i ss) ≡ false → ¬ (getD ss i 0 ≡ 0) → anyZero (take (suc i) ss) ≡ false
     go [] i l e n = absurd (omega arith)
     go (s ∷ ss) zero l e n = rw (ne-eqb s 0 n) refl
-    go (s ∷ ss) (suc i) l e n = let x = or-first (eqb s 0) (anyZero (take i ss)) e in rw (x .0) (go ss i (omega arith) (x .1) n)
+    go (s ∷ ss) (suc i) l e n = let x = or-false (eqb s 0) (anyZero (take i ss)) e in rw (x .0) (go ss i (omega arith) (x .1) n)
 
 pub all-steps : (ss : List ℕ) (k : ℕ) → k ≤ length ss → anyZero (take k ss) ≡ false → (i : ℕ) → i < k → 0 < getD ss i 0
 all-steps ss k l e i h = let n : ¬ (getD ss i 0 ≡ 0) = λ q. true≢false (sym (zero-at ss k i h (omega arith) q) ∙ e) in omega (arith, n)
