@@ -94,6 +94,7 @@ Has k nil = ⊥
 Has k (node i l r) = (k ≡ i) ⊎ (Has k l ⊎ Has k r)
 
 pub has_all : (P : Entry → Type 0) (k : Item) (u : Tree) → Has k u → All P u → P k.entry
+has_all P k nil m _ = elim m [ ]
 has_all P k (node i l r) (inl e) (h, a, b) = rw e h
 has_all P k (node i l r) (inr (inl m)) (h, a, b) = has_all P k l m a
 has_all P k (node i l r) (inr (inr m)) (h, a, b) = has_all P k r m b
@@ -112,6 +113,7 @@ pub lt-gt : {X : Type 0} (t : ℕ) (a b : Entry) → cmp t a b ≡ Ordering.lt �
 lt-gt t a b p q = absurd (let z : ◌≡◌ {A = ℕ} 0 1 = cc (cmp-flip t a b, ap flip p) in omega arith)
 
 pub slot_of-found : (t : ℕ) (k : Item) (u : Tree) → Ordered t u → Has k u → slot_of t k.entry u ≡ k.slot
+slot_of-found t k nil _ m = elim m [ ]
 slot_of-found t k (node i l r) (a, b, p, q) (inl e) = slot_of-by (λ s. s ≡ k.slot) t k.entry i l r (λ c. absurd (less-unlike t k.entry i.entry c (ap (λ x. x.entry) e))) (λ c. ap (λ x. x.slot) (sym e)) (λ c. absurd (less-unlike t i.entry k.entry (gt→lt t k.entry i.entry c) (ap (λ x. x.entry) (sym e))))
 slot_of-found t k (node i l r) (a, b, p, q) (inr (inl m)) =
     let h : Less t k.entry i.entry = has_all (λ x. Less t x i.entry) k l m a in

@@ -1,5 +1,5 @@
 -- Lists of anything: what holds of every element, that no element stands twice, permutations.
-use mathlib.Core.Path.{◌≡◌, refl, sym, ap, ◌∙◌}
+use mathlib.Core.Path.{◌≡◌, refl, sym, ap, ◌∙◌, subst}
 use mathlib.Core.List.{List, [], ◌∷◌, ◌++◌, Permᴰ}
 use Prim.Native.Nat.{ℕ, zero, suc, ◌<◌}
 use native.Mathlib.Omega.{arith}
@@ -36,7 +36,7 @@ module _ {A : Type 0} where
   pub once-perm : {a b : List A} → Permᴰ a b → OnceEach a → OnceEach b
   once-perm Permᴰ.nil h = h
   once-perm (Permᴰ.cons {b = b} e p) (h, hs) = (every-perm (λ y. ¬ (b ≡ y)) p (rw e at h), once-perm p hs)
-  once-perm (Permᴰ.swap e f) ((h, g), (k, ks)) = rw (← e, ← f) (((λ q. h (sym q)), k), (g, ks))
+  once-perm (Permᴰ.swap {b = b} {b' = b'} {l = l} e f) ((h, g), (k, ks)) = subst (λ x. OnceEach (x ∷ b' ∷ l)) f (subst (λ y. OnceEach (b ∷ y ∷ l)) e (((λ q. h (sym q)), k), (g, ks)))
   once-perm (Permᴰ.trans p q) h = once-perm q (once-perm p h)
 
   pub once-split : (a b : List A) → OnceEach (a ++ b) → OnceEach a × OnceEach b × Every (λ x. Every (λ y. ¬ (x ≡ y)) b) a

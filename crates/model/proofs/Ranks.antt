@@ -1,5 +1,5 @@
 -- What ranking and rebuilding keep.
-use mathlib.Core.Path.{◌≡◌, refl, sym, ap, ◌∙◌}
+use mathlib.Core.Path.{◌≡◌, refl, sym, ap, ◌∙◌, subst}
 use mathlib.Core.List.Permᴰ
 use mathlib.Core.List.{List, [], ◌∷◌, ◌++◌, Permᴰ}
 use Prim.Native.Nat.{Ordering}
@@ -78,7 +78,7 @@ all_map P Q f (i ∷ is) (h, hs) = (f i.entry h, all_map P Q f is hs)
 pub perm-distinct : {a b : List Item} → Perm a b → Distinct a → Distinct b
 perm-distinct Permᴰ.nil h = h
 perm-distinct (Permᴰ.cons {b = b} {l₂ = m} e p) (h, hs) = (perm-all (Unlike b.entry) p (rw e at h), perm-distinct p hs)
-perm-distinct (Permᴰ.swap e f) ((h, g), (k, ks)) = rw (← e, ← f) (((λ q. h (sym q)), k), (g, ks))
+perm-distinct (Permᴰ.swap {b = b} {b' = b'} {l = l} e f) ((h, g), (k, ks)) = subst (λ x. Distinct (x ∷ b' ∷ l)) f (subst (λ y. Distinct (b ∷ y ∷ l)) e (((λ q. h (sym q)), k), (g, ks)))
 perm-distinct (Permᴰ.trans p q) h = perm-distinct q (perm-distinct p h)
 
 pub distinct-split : (a : List Item) (i : Item) (b : List Item) → Distinct (a ++ (i ∷ b)) → Distinct a × Distinct b

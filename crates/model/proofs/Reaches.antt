@@ -18,7 +18,7 @@ use Rattle.model.specs.Pool.{cell_of, walk}
 use Rattle.model.specs.Rebuild.{listing, rank}
 use Rattle.model.specs.Runs.{Call, perform}
 use Rattle.model.specs.Text.{same}
-use Rattle.model.specs.Tree.{Item, Tree, entries_of, height, is_less, items, node, size, slots_of}
+use Rattle.model.specs.Tree.{Item, Tree, entries_of, height, is_less, items, nil, node, size, slots_of}
 use Rattle.model.proofs.Adds.{Has, item_at, ordered-distinct, slot_of-has}
 use Rattle.model.proofs.Asks.{perform-nearest}
 use Rattle.model.proofs.Backs.{image-book, image-lies, image-sound, valid-size}
@@ -58,11 +58,13 @@ listing-rises u o = rises-all (rank 0 (items u)) (rank-sorted 0 (items u) (order
 
 -- an item of a tree that lies in memory: its cell holds its entry; what holds of every slot holds of its slot
 cell-entry : (f : ℕ → Cell) (i : Item) (u : Tree) → Has i u → Lies f u → (f i.slot).key ≡ i.entry
+cell-entry f i nil m _ = elim m [ ]
 cell-entry f i (node j l r) (inl e) (q, ql, qr) = rw e (ap (λ c. c.key) q)
 cell-entry f i (node j l r) (inr (inl m)) (q, ql, qr) = cell-entry f i l m ql
 cell-entry f i (node j l r) (inr (inr m)) (q, ql, qr) = cell-entry f i r m qr
 
 slot-every : (P : ℕ → Type 0) (i : Item) (u : Tree) → Has i u → AllS P u → P i.slot
+slot-every P i nil m _ = elim m [ ]
 slot-every P i (node j l r) (inl e) (h, a, b) = rw e h
 slot-every P i (node j l r) (inr (inl m)) (h, a, b) = slot-every P i l m a
 slot-every P i (node j l r) (inr (inr m)) (h, a, b) = slot-every P i r m b
