@@ -8,7 +8,7 @@ use model::{Entry, Shape};
 use seek::side::Side;
 
 // The root that is left and the slot that is given up, 0 where the entry is not there.
-#[derive(Drop)]
+#[derive(Clone, Copy)]
 pub struct Struck {
     pub root: usize,
     pub freed: usize,

@@ -31,7 +31,7 @@ pub fn upper_open(b: Bound, x: i64) -> bool
 }
 
 // What a box says at an entry: whether it can reach below and above the entry's cut field, and whether it holds the entry.
-#[derive(Drop)]
+#[derive(Clone, Copy)]
 pub struct Sides {
     pub lower: bool,
     pub here: bool,

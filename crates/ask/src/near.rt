@@ -8,14 +8,14 @@ use cells::order::Order;
 use model::{Entry, Shape};
 
 // The best so far: its slot, 0 where there is none yet, and its distance.
-#[derive(Drop)]
+#[derive(Clone, Copy)]
 pub struct Best {
     pub slot: usize,
     pub distance: u64,
 }
 
 // The sides of an entry as the query sees them, and the least distance that anything on the far one can have.
-#[derive(Drop)]
+#[derive(Clone, Copy)]
 pub struct Turn {
     pub near: usize,
     pub far: usize,

@@ -8,7 +8,7 @@ use cells::order::Order;
 use model::{Entry, Shape};
 
 // Where a walk ends: at the entry, with its slot; at no slot; or past the pool or the limit. The first two tell the entries met.
-#[derive(Drop)]
+#[derive(Clone, Copy)]
 pub enum Walk {
     Found(usize, usize),
     Gone(usize),

@@ -1,4 +1,6 @@
 // The public calls. Each takes every input: it checks in the order of the table, then works, and answers with the whole answer.
+#![tactic(auto)]
+
 ghost use Rattle.std.specs.Prelude.{◌≡◌};
 ghost use Rattle.model.specs.Calls as calls;
 

@@ -2,7 +2,7 @@
 use mathlib.Core.Path.{◌≡◌, refl, sym, ap, ap₂, subst, ◌∙◌}
 use mathlib.Core.Logic.{◌⊎◌, inl, inr, ⊎_elim}
 use mathlib.Core.List.{List, [], ◌∷◌, ◌++◌}
-use Prim.Native.Nat.{ℕ, zero, suc, ◌+◌, ◌-◌, ◌*◌, ◌≤◌, max}
+use Prim.Native.Nat.{ℕ, zero, suc, ◌*◌, ◌≤◌, max}
 use native.Mathlib.Omega.{arith}
 use native.Mathlib.Numerals.{sub-one}
 use lib.ListN.{length}
@@ -64,6 +64,7 @@ unique K ks ls s (node i l r) (node j l' r') p q =
     cc
 
 pub in_left : (j : ℕ) (a b : List ℕ) → In j a → In j (a ++ b)
+in_left j [] b h = elim h [ ]
 in_left j (x ∷ a) b (inl e) = inl e
 in_left j (x ∷ a) b (inr h) = inr (in_left j a b h)
 

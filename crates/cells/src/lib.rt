@@ -1,3 +1,5 @@
 // One slot: its numbers and links, and the one comparison.
+#![tactic(auto)]
+
 pub mod order;
 pub mod slot;

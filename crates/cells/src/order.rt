@@ -8,7 +8,7 @@ ghost use Rattle.cells.specs.Orders.{named, Compared, Deeper};
 use model::Shape;
 
 // How one entry stands to another.
-#[derive(Drop)]
+#[derive(Clone, Copy)]
 pub enum Order {
     Less,
     Equal,

@@ -1,4 +1,6 @@
 // What a call does to a pool, each part on what its caller has made sure of.
+#![tactic(auto)]
+
 pub mod change;
 pub mod fresh;
 pub mod spare;

@@ -7,7 +7,7 @@ use cells::slot::{height_of, left_of, right_of};
 use rank::three::Three;
 
 // Two slots in listing order.
-#[derive(Drop)]
+#[derive(Clone, Copy)]
 pub struct Two {
     pub low: usize,
     pub high: usize,

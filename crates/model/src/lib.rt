@@ -1,15 +1,16 @@
 // The types that every crate passes: document 01, "The book and its edges", in the forms that it names.
+#![tactic(auto)]
 
 // Up to four numbers; those beyond the book's fields are ignored on the way in and 0 on the way out.
 #[repr(C)]
-#[derive(Drop)]
+#[derive(Clone, Copy)]
 pub struct Entry {
     pub f: [i64; 4],
 }
 
 // What stands outside the lent memory: fields, capacity, root, first free slot, number of entries.
 #[repr(C)]
-#[derive(Drop)]
+#[derive(Clone, Copy)]
 pub struct Head {
     pub k: usize,
     pub c: usize,
@@ -19,14 +20,14 @@ pub struct Head {
 }
 
 // The part of a head that says how the pool is laid out and cut.
-#[derive(Drop)]
+#[derive(Clone, Copy)]
 pub struct Shape {
     pub k: usize,
     pub c: usize,
 }
 
 // What one field may be, ends included.
-#[derive(Drop)]
+#[derive(Clone, Copy)]
 pub enum Bound {
     Free,
     AtLeast(i64),
@@ -35,7 +36,7 @@ pub enum Bound {
 }
 
 // A name for each row of the table of refusals, in the table's order.
-#[derive(Drop)]
+#[derive(Clone, Copy)]
 pub enum Refusal {
     Fields,
     Capacity,
@@ -51,7 +52,7 @@ pub enum Refusal {
     Tray,
 }
 
-#[derive(Drop)]
+#[derive(Clone, Copy)]
 pub enum Outcome {
     Found,
     Absent,
@@ -60,7 +61,7 @@ pub enum Outcome {
 }
 
 // The answer of every call: the outcome beside the head and the entry it belongs to.
-#[derive(Drop)]
+#[derive(Clone, Copy)]
 pub struct Answer {
     pub outcome: Outcome,
     pub head: Head,

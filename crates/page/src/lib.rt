@@ -1,4 +1,6 @@
 // What the program prints for a text, as bytes in a lent room.
+#![tactic(auto)]
+
 ghost use Rattle.page.specs.Texts.{Shown};
 
 use model::Refusal;

@@ -1,4 +1,6 @@
 // Printing the text of a saved book.
+#![tactic(auto)]
+
 mod size; // size.rt: how long each print is
 mod write; // write.rt: printing at a place
 

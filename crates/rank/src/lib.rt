@@ -1,4 +1,6 @@
 // Slots ranked by the super key.
+#![tactic(auto)]
+
 pub mod merge;
 pub mod short;
 pub mod three;

@@ -7,7 +7,7 @@ ghost use Rattle.reply.specs.Gates.{told, fitting, pooled, handed};
 use model::{Head, Refusal};
 
 // Whether a call is let in.
-#[derive(Drop)]
+#[derive(Clone, Copy)]
 pub enum Gate {
     Open,
     Shut(Refusal),

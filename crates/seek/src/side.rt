@@ -4,7 +4,7 @@ ghost use Rattle.cells.specs.Slots.{left_at, right_at, tall, Slot};
 ghost use Rattle.seek.specs.Sides.{child_at, other_of, higher_of};
 
 // Below or above, under the super key of the entry.
-#[derive(Drop)]
+#[derive(Clone, Copy)]
 pub enum Side {
     Left,
     Right,

@@ -9,7 +9,7 @@ ghost use Rattle.sheet.specs.Listing.{numbers_in, FilledWith};
 use model::{Bound, Shape};
 
 // How many entries a box has, and whether they found room.
-#[derive(Drop)]
+#[derive(Clone, Copy)]
 pub struct Filled {
     pub count: usize,
     pub fits: bool,

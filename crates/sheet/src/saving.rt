@@ -10,7 +10,7 @@ ghost use Rattle.sheet.specs.Saving.{text_in, Measured, PrintedWith};
 use model::Shape;
 
 // How many bytes a text has, where it fits into the room.
-#[derive(Drop)]
+#[derive(Clone, Copy)]
 pub struct Printed {
     pub bytes: usize,
     pub fits: bool,

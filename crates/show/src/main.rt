@@ -1,4 +1,6 @@
 // The program: one saved book from standard input, its tree to standard output.
+#![tactic(auto)]
+
 use libc::{STDIN_FILENO, STDOUT_FILENO};
 
 // One byte more than a book may have is read, so that a longer input is known to be longer.

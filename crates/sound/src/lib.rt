@@ -1,4 +1,6 @@
 // Whether a pool is sound: one pass over its tree, one walk along its free chain, and no memory but eight bounds and their edges.
+#![tactic(auto)]
+
 pub mod chain;
 pub mod tree;
 

@@ -9,7 +9,7 @@ use crate::number::{Number, read_number};
 use print::end_byte;
 
 // An entry line, if there is one: its numbers, 0 beyond them, and the place behind its LF.
-#[derive(Drop)]
+#[derive(Clone, Copy)]
 pub struct Line {
     pub ok: bool,
     pub f: [i64; 4],

@@ -5,14 +5,14 @@ ghost use Rattle.text.specs.Strict.{grown, capped, decimal_at, number_at};
 ghost use Rattle.text.specs.Told.{Tells};
 
 // Digits as far as they go: what they spell, and the place behind them.
-#[derive(Drop)]
+#[derive(Clone, Copy)]
 pub struct Digits {
     pub value: usize,
     pub next: usize,
 }
 
 // A decimal, if there is one.
-#[derive(Drop)]
+#[derive(Clone, Copy)]
 pub struct Decimal {
     pub ok: bool,
     pub value: usize,
@@ -20,7 +20,7 @@ pub struct Decimal {
 }
 
 // A signed number, if there is one.
-#[derive(Drop)]
+#[derive(Clone, Copy)]
 pub struct Number {
     pub ok: bool,
     pub value: i64,

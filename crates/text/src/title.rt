@@ -6,7 +6,7 @@ ghost use Rattle.text.specs.Told.{passed, Tells};
 use crate::number::{Decimal, read_decimal};
 
 // The first line, if it is one: fields, entries, and the place behind its LF.
-#[derive(Drop)]
+#[derive(Clone, Copy)]
 pub struct Title {
     pub ok: bool,
     pub fields: usize,

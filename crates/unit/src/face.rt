@@ -3,7 +3,7 @@ use model::{Entry, Head};
 
 // The bound of one field: kind 0 free, 1 at least low, 2 at most high, any other between low and high.
 #[repr(C)]
-#[derive(Drop)]
+#[derive(Clone, Copy)]
 pub struct Limit {
     pub kind: usize,
     pub low: i64,
@@ -11,20 +11,20 @@ pub struct Limit {
 }
 
 #[repr(C)]
-#[derive(Drop)]
+#[derive(Clone, Copy)]
 pub struct Limits {
     pub of: [Limit; 4],
 }
 
 #[repr(C)]
-#[derive(Drop)]
+#[derive(Clone, Copy)]
 pub struct Steps {
     pub of: [u64; 4],
 }
 
 // An answer, its outcome as 1 found, 2 absent, 3 done, 4 refused, and the refusal's number beside it.
 #[repr(C)]
-#[derive(Drop)]
+#[derive(Clone, Copy)]
 pub struct Told {
     pub outcome: usize,
     pub refusal: usize,

@@ -1,4 +1,6 @@
 // The doors of the book for C and Rust: each makes its arguments the book's own, asks the call, and makes the answer flat.
+#![tactic(auto)]
+
 ghost use Rattle.std.specs.Prelude.{◌≡◌};
 ghost use Rattle.model.specs.Calls as calls;
 ghost use Rattle.model.specs.Tray as trays;

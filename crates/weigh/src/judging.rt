@@ -14,14 +14,14 @@ use crate::pool::is_there;
 use model::{Head, Refusal};
 
 // What is wrong with one item.
-#[derive(Drop)]
+#[derive(Clone, Copy)]
 pub enum Verdict {
     Right,
     Wrong(Refusal),
 }
 
 // The place, from 1, and the refusal of the first wrong item.
-#[derive(Drop)]
+#[derive(Clone, Copy)]
 pub enum First {
     Nothing,
     Item(usize, Refusal),

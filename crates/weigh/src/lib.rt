@@ -1,4 +1,6 @@
 // What a call brings, weighed against a pool that is known to be sound, before anything is written.
+#![tactic(auto)]
+
 pub mod items;
 pub mod judging;
 pub mod lines;
