@@ -1,5 +1,5 @@
 -- From signed numbers to their bits, their exact difference and its steps.
-use Rattle.std.proofs.Common.{◌≡◌, ℕ, suc, ◌+◌, ◌-◌, ◌/◌, ◌%◌, ◌^◌, ◌<◌, ◌≤◌, true, false, ℤ, pos, negsuc, sym, refl, ap, ◌∙◌, arith, w64, SFits, to_z, of_z, ltb-false, ltb-true, le-leb, leb-true}
+use Rattle.std.proofs.Common.{◌≡◌, ℕ, suc, ◌+◌, ◌/◌, ◌%◌, ◌^◌, ◌<◌, ◌≤◌, true, false, ℤ, pos, negsuc, sym, refl, ap, ◌∙◌, arith, w64, SFits, to_z, of_z, ltb-false, ltb-true, le-leb, leb-true}
 use lib.Signed.{lt_z, le_z}
 use mir.ValLaws.{to_z-of_z}
 use Rattle.model.specs.Number.{difference, distance_of_field}
