@@ -2,7 +2,7 @@
 use mathlib.Core.Path.{◌≡◌, refl, sym, ◌∙◌}
 use mathlib.Core.Bool.{true}
 use mathlib.Core.List.{◌∷◌, ◌++◌}
-use Prim.Native.Nat.{ℕ, suc, ◌+◌, ◌-◌, ◌<◌, Ordering}
+use Prim.Native.Nat.{ℕ, suc, ◌<◌, Ordering}
 use native.Mathlib.Omega.{arith}
 use lib.Dec.{is_le}
 use lib.ListN.{length, take, drop, get_or}

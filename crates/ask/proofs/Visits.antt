@@ -18,7 +18,6 @@ use Rattle.model.specs.Tree.{is_less}
 use Rattle.model.specs.declared.Shape.{Shape}
 use Rattle.model.proofs.Numbers.{lt_z-cmp}
 use Rattle.model.proofs.Orders.{flip, cmp-flip}
-use Rattle.model.proofs.Trees.{Less}
 use Rattle.cells.specs.Orders as orders
 use Rattle.cells.specs.Slots.{left_at, right_at, address_of, numbers_of, Keyed, Room, SlotsCompared}
 use Rattle.cells.specs.declared.order.Order.{Order}

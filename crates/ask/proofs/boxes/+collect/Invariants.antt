@@ -1,0 +1,6 @@
+use Rattle.cells.specs.Slots.{tall}
+use Rattle.ask.proofs.boxes.+collect.Given as goal
+
+-- the height of what hangs at the slot
+abbrev pub decreases-collect : goal.decreases-collect
+decreases-collect l = tall l.links.now l.s
