@@ -17,7 +17,7 @@ use Rattle.model.specs.Tree.{is_less}
 use Rattle.model.specs.declared.Shape.{Shape}
 use Rattle.model.proofs.Numbers.{lt_z-cmp}
 use Rattle.model.proofs.Orders.{cmp-refl, order-eq, order-refl}
-use Rattle.model.proofs.Trees.{Less, is_less-true}
+use Rattle.model.proofs.Trees.{is_less-true}
 use Rattle.cells.specs.Orders.{named}
 use Rattle.cells.specs.Slots.{Room, Keyed, address_of, numbers_of}
 use Rattle.cells.specs.declared.order.Order.{Order}

@@ -1,5 +1,5 @@
 -- The needs of the pass, each from facts as the record of its place has them.
-use mathlib.Core.Path.{◌≡◌, refl, ap, subst, ◌∙◌}
+use mathlib.Core.Path.{◌≡◌, refl, sym, ap, subst, ◌∙◌}
 use mathlib.Core.Bool.{Bool, true, false}
 use mathlib.Core.List.{List}
 use Prim.Native.Nat.{ℕ, suc, ◌+◌, ◌-◌, ◌*◌, ◌≤◌, ◌<◌}
@@ -38,6 +38,20 @@ nothing K ks ls cut s left bs e h = record {
   good = λ g t q. record { grown = record { tree = nil; rep = e; ordered = tt; even = tt; inside = tt }; count = omega arith };
   bad = λ z. absurd (omega arith);
 }
+
+-- what is known once the left side at l is done, be it there or not: its answer, and that bounds and edges are as before
+pub record Done (K : ℕ) (ks : List ℤ) (ls : List ℕ) (cut l left : ℕ) (inner bs : List ℕ) (es : List ℤ) (r : ℕ) (bs₂ : List ℕ) (es₂ : List ℤ) : Type 0 where
+  pub judged : Judged K ks ls cut l left inner r
+  pub some : r ≡ 0 → ⊥
+  pub bounds : bs₂ ≡ bs
+  pub edges : es₂ ≡ es
+
+module _ (K : ℕ) (ks : List ℤ) (ls : List ℕ) (cut l left : ℕ) (inner bs : List ℕ) (es : List ℤ) (r : ℕ) (bs₂ : List ℕ) (es₂ : List ℤ) where
+  pub done-there : (r' : ℕ) (bs' : List ℕ) (es' : List ℤ) → Judged K ks ls cut l left inner r' × ((bs' ≡ bs) × (es' ≡ es)) → (r' ≡ 0 → ⊥) → r ≡ r' → bs₂ ≡ bs' → es₂ ≡ es' → Done K ks ls cut l left inner bs es r bs₂ es₂
+  done-there r' bs' es' j n er eb ee = record { judged = rw er j.0; some = λ z. n (sym er ∙ z); bounds = eb ∙ j.1.0; edges = ee ∙ j.1.1 }
+
+  pub done-none : l ≡ 0 → 1 ≤ left → r ≡ left → bs₂ ≡ bs → es₂ ≡ es → Done K ks ls cut l left inner bs es r bs₂ es₂
+  done-none z h er eb ee = record { judged = rw er (nothing K ks ls cut l left inner z h); some = λ e. omega arith; bounds = eb; edges = ee }
 
 module _ (S : Shape) (ks : List ℤ) (ls : List ℕ) (cut s left : ℕ) (bs : List ℕ) (asked : Asked S (length ks) (length ls) cut left bs) (slot : Slot (length ls) s) where
   abbrev K : ℕ

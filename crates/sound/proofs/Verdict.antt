@@ -23,7 +23,7 @@ use Rattle.model.proofs.Looks.{low-enough}
 use Rattle.model.proofs.Sounds.{fits-fitting, fitting-fits}
 use Rattle.model.proofs.Trees.{All}
 use Rattle.cells.specs.Memory.{Rep}
-use Rattle.cells.specs.Slots.{Room, Slot, tall}
+use Rattle.cells.specs.Slots.{Room, Slot, tall, left_at, right_at}
 use Rattle.cells.proofs.Reps.{lies-rep, open-nil, rep-lies, tall-rep, unique}
 use Rattle.sound.specs.Chain.{Free}
 use Rattle.sound.specs.Parts.{Tells, shape_of}
@@ -41,7 +41,7 @@ module _ (S : Shape) (ks : List ℤ) (ls : List ℕ) (root n : ℕ) (room : Room
 
   open-all : (s : ℕ) (u : Tree) → Rep S.k ks ls s u → All (Inside S.k ks (replicate 8 0)) u
   open-all s nil p = tt
-  open-all s (node i l r) p = (open-inside S.k ks i.entry (ap length (sym p.2) ∙ slot-long S ks (length ls) i.slot room p.1), open-all _ l p.4, open-all _ r p.5)
+  open-all s (node i l r) p = (open-inside S.k ks i.entry (ap length (sym p.2) ∙ slot-long S ks (length ls) i.slot room p.1), open-all (left_at ls i.slot) l p.4, open-all (right_at ls i.slot) r p.5)
 
   pub no-tree : root ≡ 0 → Tells W (eqb n 0)
   no-tree e = record {

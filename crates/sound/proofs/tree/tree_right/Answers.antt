@@ -1,0 +1,11 @@
+use Rattle.sound.proofs.Verdict as verdict
+use Rattle.sound.proofs.tree.tree_right.Goals as goal
+
+pub returns-then-root-eq0 : goal.returns-then-root-eq0
+returns-then-root-eq0 c = search verdict.no-tree
+
+pub returns-then-height_of-gt16 : goal.returns-then-height_of-gt16
+returns-then-height_of-gt16 c = search verdict.too-tall
+
+pub returns : goal.returns
+returns c = search verdict.whole_by
