@@ -104,6 +104,7 @@ module _ (K : ℕ) (ks : List ℤ) where
 -- ---- lists of different slots
 
 pub every_in : (P : ℕ → Type 0) (xs : List ℕ) → Every P xs → (j : ℕ) → In j xs → P j
+every_in P [] h j i = elim i [ ]
 every_in P (x ∷ xs) h j (inl e) = rw e h.0
 every_in P (x ∷ xs) h j (inr i) = every_in P xs h.1 j i
 
