@@ -120,6 +120,7 @@ next_up s t a (i ∷ is) apart y h = go (next_up s t g is among) h
 
 -- from the list of a tree to the tree and back
 has_left : (y : Item) (a b : List Item) → Has y a → Has y (a ++ b)
+has_left y [] b h = elim h [ ]
 has_left y (x ∷ a) b (inl e) = inl e
 has_left y (x ∷ a) b (inr h) = inr (has_left y a b h)
 
@@ -133,11 +134,13 @@ has-cases y (x ∷ a) b (inl e) = inl (inl e)
 has-cases y (x ∷ a) b (inr h) = ⊎_elim (λ i. inl (inr i)) (λ i. inr i) (has-cases y a b h)
 
 of-has : (y : Item) (u : Tree) → Of y u → Has y (items u)
+of-has y nil h = elim h [ ]
 of-has y (node i l r) (inl e) = has_right y (items l) (i ∷ items r) (inl e)
 of-has y (node i l r) (inr (inl h)) = has_left y (items l) (i ∷ items r) (of-has y l h)
 of-has y (node i l r) (inr (inr h)) = has_right y (items l) (i ∷ items r) (inr (of-has y r h))
 
 has_of : (y : Item) (u : Tree) → Has y (items u) → Of y u
+has_of y nil h = elim h [ ]
 has_of y (node i l r) h = ⊎_elim (λ k. inr (inl (has_of y l k))) (λ k. ⊎_elim (λ e. inl e) (λ g. inr (inr (has_of y r g))) k) (has-cases y (items l) (i ∷ items r) h)
 
 of-root : (y i : Item) (l r : Tree) → Of y (node i l r) → Has y (i ∷ (items l ++ items r))
@@ -150,15 +153,18 @@ root-of y i l r (inl e) = inl e
 root-of y i l r (inr h) = inr (⊎_elim (λ k. inl (has_of y l k)) (λ k. inr (has_of y r k)) (has-cases y (items l) (items r) h))
 
 pub of-all : (P : Entry → Type 0) (y : Item) (u : Tree) → All P u → Of y u → P y.entry
+of-all P y nil _ h = elim h [ ]
 of-all P y (node i l r) (h, a, b) (inl e) = rw e h
 of-all P y (node i l r) (h, a, b) (inr (inl k)) = of-all P y l a k
 of-all P y (node i l r) (h, a, b) (inr (inr k)) = of-all P y r b k
 
 has_all : (P : Entry → Type 0) (y : Item) (is : List Item) → AllL P is → Has y is → P y.entry
+has_all P y [] _ h = elim h [ ]
 has_all P y (x ∷ xs) (h, hs) (inl e) = rw e h
 has_all P y (x ∷ xs) (h, hs) (inr k) = has_all P y xs hs k
 
 distinct_apart : (is : List Item) → Distinct is → Apart is
+distinct_apart [] _ y z h _ q = elim h [ ]
 distinct_apart (x ∷ xs) (h, hs) y z (inl e) (inl f) q = e ∙ sym f
 distinct_apart (x ∷ xs) (h, hs) y z (inl e) (inr g) q = absurd (has_all (Unlike x.entry) z xs h g (ap (λ (w : Item). w.entry) (sym e) ∙ q))
 distinct_apart (x ∷ xs) (h, hs) y z (inr g) (inl f) q = absurd (has_all (Unlike x.entry) y xs h g (ap (λ (w : Item). w.entry) (sym f) ∙ sym q))

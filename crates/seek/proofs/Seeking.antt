@@ -80,6 +80,7 @@ module _ (K : ℕ) (ks : List ℤ) (side : Side) (h a b : ℕ) (o : Order) (e : 
 
 -- an item of a tree in memory: its slot, and its numbers there
 of-rep : (K : ℕ) (ks : List ℤ) (ls : List ℕ) (s : ℕ) (u : Tree) → Rep K ks ls s u → (y : Item) → Of y u → Slot (length ls) y.slot × (numbers_of K ks y.slot ≡ y.entry)
+of-rep K ks ls s nil p y h = elim h [ ]
 of-rep K ks ls s (node i l r) p y (inl e) = rw e (p.1, p.2)
 of-rep K ks ls s (node i l r) p y (inr (inl h)) = of-rep K ks ls (left_at ls i.slot) l p.4 y h
 of-rep K ks ls s (node i l r) p y (inr (inr h)) = of-rep K ks ls (right_at ls i.slot) r p.5 y h
