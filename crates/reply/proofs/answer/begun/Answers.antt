@@ -1,0 +1,8 @@
+use mathlib.Core.Path.{◌∙◌, ap}
+use Rattle.model.specs.Answer.{plain}
+use Rattle.model.specs.declared.Outcome.TheVariants.{Done}
+use Rattle.reply.proofs.Gates.{fresh-head}
+use Rattle.reply.proofs.answer.begun.Goals as goal
+
+pub returns : goal.returns
+returns c = λ h. c.plain.ensures ∙ ap (plain Done) (fresh-head c.args.k c.args.c h)
