@@ -1,17 +1,17 @@
 -- The tree on a side of a node is struck and the node mended: which slots are left, what lies where, and what stays.
 use mathlib.Core.Path.{◌≡◌, refl, subst, ◌∙◌}
-use mathlib.Core.Logic.{◌⊎◌, inl, inr, ⊎_elim}
+use mathlib.Core.Logic.{inl, inr, ⊎_elim}
 use mathlib.Core.Bool.{true}
 use mathlib.Core.List.Permᴰ
 use mathlib.Core.List.{List, [], ◌∷◌, ◌++◌}
-use Prim.Native.Nat.{ℕ, suc, ◌+◌, ◌≤◌, ◌<◌}
+use Prim.Native.Nat.{ℕ, suc, ◌≤◌, ◌<◌}
 use native.Mathlib.Omega.{arith}
 use lib.ListN.{length}
 use lib.IntN.{ℤ}
 use Rattle.model.specs.Entry.{Entry, cut_field}
 use Rattle.model.specs.Tree.{Item, Tree, nil, node, height, items, ordered}
 use Rattle.model.specs.Add.{mend}
-use Rattle.model.specs.Strike.{strike, freed, left, right, Side as Way}
+use Rattle.model.specs.Strike.{strike, left, right, Side as Way}
 use Rattle.model.proofs.Adds.{mend-perm}
 use Rattle.model.proofs.Crowd.{PermS}
 use Rattle.model.proofs.Lists.{Every, OnceEach, once-perm, once-split, once_join}
