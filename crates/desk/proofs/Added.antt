@@ -72,6 +72,7 @@ module _ (h : Head) (ks : List ℤ) (ls : List ℕ) (p : Sound h ks ls) (fits : 
     tree-stays = rep-frame h.k ks ks₁ ls ls₁ (h.free ∷ []) nl cl.others h.root b.tree out (its-rep h ks ls p)
       where
         out : (j : ℕ) → In j (slots b.tree) → ¬ (In j (h.free ∷ []))
+        out j i (inr h) = elim h [ ]
         out j i (inl q) = not-tree (rw q at i)
 
     new-item : item_in h.k ks₁ h.free ≡ record { slot = h.free; entry = e }
@@ -85,6 +86,7 @@ module _ (h : Head) (ks : List ℤ) (ls : List ℕ) (p : Sound h ks ls) (fits : 
       both = frame-trans h.k ks ks₁ ks₁ ls ls₁ ls₂ (h.free ∷ []) (h.free ∷ slots b.tree) cl.others (ins.frame b.tree tree-stays) (h.free ∷ slots b.tree) one (λ j i. i)
         where
           one : (j : ℕ) → In j (h.free ∷ []) → In j (h.free ∷ slots b.tree)
+          one j (inr h) = elim h [ ]
           one j (inl q) = inl q
 
       chain-after : Chain h.k ks₁ ls₂ (rest b.chain)

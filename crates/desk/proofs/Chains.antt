@@ -2,7 +2,7 @@
 use mathlib.Core.Path.{◌≡◌, refl, sym, ap, ◌∙◌}
 use mathlib.Core.Logic.{◌⊎◌, inl, inr}
 use mathlib.Core.List.{List, [], ◌∷◌, ◌++◌, append-nil}
-use Prim.Native.Nat.{ℕ, zero, suc, ◌+◌, ◌-◌, ◌*◌, ◌≤◌, ◌<◌}
+use Prim.Native.Nat.{ℕ, zero, suc, ◌+◌, ◌*◌, ◌≤◌, ◌<◌}
 use native.Mathlib.Decide.{dec_le}
 use native.Mathlib.Nat.{mul-le-mul_left}
 use native.Mathlib.Numerals.{add-one}
@@ -11,7 +11,6 @@ use lib.ListN.{length, get_or, set, take, drop, replicate, length-append, length
 use lib.Seq.{drop-cons, set_at}
 use lib.IntN.{ℤ, pos}
 use borrow.Author.Tests.{eq-eqb, ne_eqb}
-use mathlib.Core.Option.{some}
 use Rattle.model.specs.Book.{Cell, up_from, first, behind, fresh, cell_in, cell, links, keys}
 use Rattle.model.specs.Pool.{cell_of}
 use Rattle.model.proofs.Crowd.{InPool}
@@ -61,6 +60,7 @@ chain_more ls ls' C m n h c p e f =
     kept s a z = p.others 0 [] s a (λ i. away s z i)
       where
         away : (s : ℕ) → s ≤ m → Rattle.cells.specs.Memory.In s ((m + 1) ∷ []) → ⊥
+        away s z (inr h) = elim h [ ]
         away s z (inl q) = omega arith
 
 -- the slot that is written, and the link that it is given

@@ -1,6 +1,6 @@
 -- One entry struck from a sound pool: its slot given back, and the pool of the new book.
 use mathlib.Core.Path.{◌≡◌, refl, sym, ap, subst, ◌∙◌}
-use mathlib.Core.Logic.{inl}
+use mathlib.Core.Logic.{inl, inr}
 use mathlib.Core.Bool.{true}
 use mathlib.Core.List.Permᴰ
 use mathlib.Core.List.{List, [], ◌∷◌, Permᴰ}
@@ -67,12 +67,14 @@ module _ (h : Head) (ks : List ℤ) (ls : List ℕ) (p : Sound h ks ls) where
       tree-after = rep-frame h.k ks₁ ks₂ ls₁ ls₂ (x.freed ∷ []) nl₂ rl.others x.root (strike 0 e b.tree) out (st.rep 0 (first-cut h.k) b.tree (its-rep h ks ls p) (ordered_of h ks ls (its h ks ls p)))
         where
           out : (j : ℕ) → In j (slots (strike 0 e b.tree)) → ¬ (In j (x.freed ∷ []))
+          out j i (inr h) = elim h [ ]
           out j i (inl q) = every_in (λ y. ¬ (x.freed ≡ y)) (slots (strike 0 e b.tree)) left-once.0 j i (sym q)
 
       both : Frame h.k ks ks₂ ls ls₂ (slots b.tree)
       both = frame-trans h.k ks ks₁ ks₂ ls ls₁ ls₂ (slots b.tree) (x.freed ∷ []) (st.frame b.tree (its-rep h ks ls p)) rl.others (slots b.tree) (λ j i. i) one
         where
           one : (j : ℕ) → In j (x.freed ∷ []) → In j (slots b.tree)
+          one j (inr h) = elim h [ ]
           one j (inl q) = subst (λ (z : ℕ). In z (slots b.tree)) (sym q) freed-in
 
       old-chain : Chain h.k ks₂ ls₂ b.chain
