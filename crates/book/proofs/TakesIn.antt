@@ -3,7 +3,7 @@ use mathlib.Core.Path.{◌≡◌, refl, sym, ap, subst, ◌∙◌}
 use mathlib.Core.Bool.{Bool, true, false, not}
 use mathlib.Core.Option.{some}
 use mathlib.Core.List.{List, [], ◌∷◌, ◌++◌}
-use Prim.Native.Nat.{ℕ, ◌+◌, ◌-◌, ◌≤◌, ◌<◌}
+use Prim.Native.Nat.{ℕ, ◌+◌, ◌≤◌}
 use native.Mathlib.Omega.{arith}
 use lib.Dec.{eqb, ltb}
 use lib.ListN.{length, replicate}
@@ -34,7 +34,7 @@ use Rattle.reply.specs.Gates.{told, pooled}
 use Rattle.reply.specs.declared.gate.Gate.{Gate}
 use Rattle.reply.specs.declared.gate.Gate.TheVariants.{Open, Shut}
 use Rattle.reply.proofs.Pools.{behind-shut, pool-refuses}
-use Rattle.book.proofs.Written.{Leaves, leaves-shut, leaves-done, rows-past, sound-pool}
+use Rattle.book.proofs.Written.{Leaves, leaves-shut, leaves-done, rows-past}
 
 -- a refusal that a table gives is one of its rows'
 row_of : (P : Refusal → Type 0) (rows : List Row) (r : Refusal) → Every (λ (c : Row). P c.1) rows → gate rows ≡ some r → P r
