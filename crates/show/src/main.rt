@@ -1,13 +1,35 @@
 // The program: one saved book from standard input, its tree to standard output.
 #![tactic(auto)]
 
-use libc::{STDIN_FILENO, STDOUT_FILENO};
+ghost use Rattle.std.specs.Prelude.{◌≡◌, ◌≢◌, length, take, IfOk};
+ghost use Rattle.std.specs.Io.{ReadsAtMost};
+ghost use Rattle.std.specs.Io.KnownBytes.{Consumes, IsAtEnd};
+
+use std::io;
+use std::io::{Print, Read};
+
+// Reads until the room is full or the input ends; returns how many bytes it put at the front of the room.
+fn read_full<R: Read>(reader: &mut R, room: &mut [u8]) -> io::Result<usize>
+    ensures within { ReadsAtMost result room.new }
+    ensures bytes { IfOk result (λ n. Consumes (R.remaining reader.old) (R.remaining reader.new) (take n room.new)) }
+    ensures all { IfOk result (λ n. n ≢ length room.new → IsAtEnd (R.remaining reader.new)) }
+{
+    let mut done = 0;
+    while done < room.len() {
+        let n = reader.read(&mut room[done..])?;
+        if n == 0 {
+            break;
+        }
+        done += n;
+    }
+    Ok(done)
+}
 
 // One byte more than a book may have is read, so that a longer input is known to be longer.
-fn main() {
+fn main(rt: HostRuntime) -> io::Result<()> {
     let mut input = [0u8; 32769];
-    let n = io::read_full(STDIN_FILENO, &mut input);
+    let n = read_full(&mut rt.stdin(), &mut input)?;
     let mut room = [0u8; page::ROOM];
     let printed = page::shown(&input[..n], &mut room);
-    io::write_all(STDOUT_FILENO, &room[..printed]);
+    rt.write_all(&room[..printed])
 }
