@@ -1,9 +1,8 @@
 # show: the tree of a sample book. test: everything; its last line is 'N passed, M failed'. bench: ratios to C and to other libraries.
-# picture: the sample book's tree drawn, as the README shows it. library: the proved code for C and Rust to link.
-.PHONY: show test bench picture library
+# picture: the sample book's tree drawn, as the README shows it. library: the proved code for C and Rust to link. program: the proved program.
+.PHONY: show test bench picture library program
 
-show:
-	@rt check show >&2
+show: program
 	@target/bin/show < samples/bench.txt
 
 test:
@@ -17,5 +16,17 @@ picture:
 
 library: target/staticlib/libunit.a
 
-target/staticlib/libunit.a: $(shell find crates -path '*/must-fail' -prune -o -type f -print) crates.txt
-	@rt staticlib unit
+program: target/bin/show
+
+sources := $(shell find crates \( -name must-fail -o -name out \) -prune -o -type f -print) crates.txt
+
+target/staticlib/libunit.a: $(sources)
+	@mkdir -p $(@D)
+	@cd crates/unit && rt lib
+	@cp crates/unit/out/libunit.a $@
+
+# What a check says goes to standard error, and what this first run prints nowhere.
+target/bin/show: $(sources)
+	@mkdir -p $(@D)
+	@cd crates/show && rt run <stdin >/dev/null
+	@cp crates/show/out/show $@

@@ -1,6 +1,6 @@
 #!/bin/sh
 # The table of docs/BENCH.md: the book beside the same calls in C and beside peers, as ratios of least times in one run. --write puts it there.
-# Needs rt and, from Debian, the packages below; BOOK_LIB=FOLDER takes libunit.a from there instead of building it.
+# Needs rt, make and, from Debian, the packages below; BOOK_LIB=FOLDER takes libunit.a from there instead of building it.
 set -e
 cd "$(dirname "$0")/.."
 packages="gcc g++ valgrind libkdtree++-dev libboost-dev libnanoflann-dev libsqlite3-dev"
@@ -11,7 +11,7 @@ out=$(mktemp -d)
 trap 'rm -rf "$out"' EXIT
 
 lib=${BOOK_LIB:-target/staticlib}
-[ -n "${BOOK_LIB:-}" ] || rt staticlib unit >"$out/log" 2>&1 || { tail -n 20 "$out/log"; exit 1; }
+[ -n "${BOOK_LIB:-}" ] || make -s library >"$out/log" 2>&1 || { tail -n 20 "$out/log"; exit 1; }
 flags="-O3 -Wall -Wextra -Werror -Iinclude -Ibench/c -Ibench/peers -Ibench/turns"
 # shellcheck disable=SC2086
 for f in bench/c/*.c bench/turns/*.c bench/peers/*.c; do gcc $flags -c "$f" -o "$out/$(echo "$f" | tr / _).o"; done

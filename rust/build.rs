@@ -1,4 +1,4 @@
-//! Links the proved library: libunit.a in the folder that BOOK_LIB names, else where `rt staticlib unit` writes it in this repository.
+//! Links the proved library: libunit.a in the folder that BOOK_LIB names, else where `make library` puts it in this repository.
 
 use std::{env, path::PathBuf};
 
@@ -11,7 +11,7 @@ fn main() {
     let archive = folder.join("libunit.a");
     assert!(
         archive.is_file(),
-        "no {}: run `rt staticlib unit`, or set BOOK_LIB to the library's folder",
+        "no {}: run `make library`, or set BOOK_LIB to the library's folder",
         archive.display()
     );
     println!("cargo:rerun-if-env-changed=BOOK_LIB");

@@ -1,4 +1,4 @@
-//! Links the static library that `rt staticlib unit` writes; BOOK_LIB names another folder.
+//! Links the static library that `make library` makes; BOOK_LIB names another folder.
 
 use std::env;
 
