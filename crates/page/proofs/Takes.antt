@@ -8,7 +8,7 @@ use lib.ListN.{length, replicate, length-replicate}
 use lib.IntN.{ℤ, pos}
 use borrow.Author.Tests.{eq-eqb}
 use Rattle.model.specs.Book.{Book, fresh, head_of, keys, links}
-use Rattle.model.specs.Text.{parse, saved}
+use Rattle.model.specs.Text.{parse}
 use Rattle.model.specs.Answer.{plain, refused}
 use Rattle.model.specs.Gate.{After, reading, rows3, sized}
 use Rattle.model.specs.Calls.{no_head, start, take_in}

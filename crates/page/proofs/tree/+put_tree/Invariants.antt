@@ -1,0 +1,5 @@
+use Rattle.cells.specs.Slots.{tall}
+use Rattle.page.proofs.tree.+put_tree.Given as goal
+
+abbrev pub decreases-put_tree : goal.decreases-put_tree
+decreases-put_tree l = tall l.links.now l.s
