@@ -72,7 +72,7 @@ key_cells K b (s ∷ ss) = (cell K b s).key ++ key_cells K b ss
 unfoldable pub links : ℕ → ℕ → Book → List ℕ
 links K C b = link_cells K b (up_from C 1)
 
--- The key table: the K numbers of slot 1, then of slot 2, up to C. (The book and its edges: K-as-C numbers.)
+-- The key table: the K numbers of slot 1, then of slot 2, up to C. (The book and its edges: K·C numbers.)
 unfoldable pub keys : ℕ → ℕ → Book → List ℤ
 keys K C b = key_cells K b (up_from C 1)
 

@@ -32,7 +32,7 @@ writing h b = leaving (plain Done (head_of h.k h.c b)) (keys h.k h.c b) (links h
 abbrev pub rows3 : ℕ → ℕ → Bool → List Row
 rows3 K C right = (not (leb 1 K && leb K 4), Fields) ∷ (not (leb 1 C && leb C 4096), Capacity) ∷ (not right, Lengths) ∷ []
 
--- The key table has K-as-C numbers and the link table 3·C. (When the book says no, 3.)
+-- The key table has K·C numbers and the link table 3·C. (When the book says no, 3.)
 abbrev pub sized : ℕ → ℕ → List ℤ → List ℕ → Bool
 sized K C ks ls = eqb (length ks) (K * C) && eqb (length ls) (3 * C)
 
