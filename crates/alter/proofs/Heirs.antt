@@ -21,12 +21,12 @@ use Rattle.model.proofs.Trees.{both}
 use Rattle.cells.specs.Orders.{named}
 use Rattle.cells.specs.Slots.{left_at, right_at, numbers_of, Slot, Keyed, Room, EntryCompared}
 use Rattle.cells.specs.Memory.{Rep, In, Wrote}
-use Rattle.cells.specs.declared.order.Order.{Order}
-use Rattle.cells.specs.declared.order.Order.TheVariants.{Less, Equal, Greater}
+use Rattle.std.specs.declared.cmp.Ordering.{Ordering as Order}
+use Rattle.std.specs.declared.cmp.Ordering.TheVariants.{Less, Equal, Greater}
 use Rattle.cells.proofs.Reps.{Node, open-node, unique, rep-bound, rep-frame}
 use Rattle.ask.proofs.Walks.{keyed-in}
 use Rattle.seek.specs.Sides.{way_of, on_side, higher_of}
-use Rattle.alter.specs.Strikes.{Strikable, StrikableOn, StruckOut, StruckOn}
+use Rattle.alter.specs.Strikes.{IsFreed, Strikable, StrikableOn, StruckOut, StruckOn}
 use Rattle.seek.specs.declared.side.Side.{Side}
 use Rattle.seek.specs.declared.side.Side.TheVariants.{Left, Right}
 use Rattle.alter.specs.declared.strike.Struck.{Struck}
@@ -125,7 +125,7 @@ slots-moved i e l r = slots-append (items l) (moved i e ∷ items r) ∙ sym (sl
 
 -- ---- a strike at a node
 
-module _ (S : Shape) (ks : List ℤ) (ls : List ℕ) (s c : ℕ) (m : Room S (length ks) (length ls)) (ne : ¬ (s ≡ 0)) (g : Strikable S.k ks ls s c) where
+module _ {S : Shape} {ks : List ℤ} {ls : List ℕ} {s c : ℕ} (m : Room S (length ks) (length ls)) (ne : ¬ (s ≡ 0)) (g : Strikable S.k ks ls s c) where
   here : Node S.k ks ls s g.tree
   here = open-node S.k ks ls s g.tree g.stands.rep ne
 
@@ -178,16 +178,16 @@ module _ (S : Shape) (ks : List ℤ) (ls : List ℕ) (s c : ℕ) (m : Room S (le
             let q : cmp t e h.item.entry ≡ goes side = subst (λ (y : Entry). cmp t e y ≡ goes side) (sided S.k ks ls s side h.item h.there h.other p').entry (way t ct) in
             subst (Rep S.k ks' ls' x.root) (sym (ap (strike t e) h.is ∙ strike-goes side t e h.item h.there h.other q)) (on.rep t ct h.item h.there h.other p' (ordered-on side t h.item h.there h.other o'))
 
-        gone : (t : ℕ) → cut_field S.k t ≡ c → (u : Tree) → Rep S.k ks ls s u → ordered t u ≡ true → x.freed ≡ freed t e u
+        gone : (t : ℕ) → cut_field S.k t ≡ c → (u : Tree) → Rep S.k ks ls s u → ordered t u ≡ true → IsFreed x.freed (freed t e u)
         gone t ct u p o =
             let h = halves S.k ks ls s side u p ne in
             let p' = subst (Rep S.k ks ls s) h.is p in
             let o' = subst (λ (v : Tree). ordered t v ≡ true) h.is o in
             let q : cmp t e h.item.entry ≡ goes side = subst (λ (y : Entry). cmp t e y ≡ goes side) (sided S.k ks ls s side h.item h.there h.other p').entry (way t ct) in
-            on.gone t ct h.item h.there h.other p' (ordered-on side t h.item h.there h.other o') ∙ sym (ap (freed t e) h.is ∙ freed-goes side t e h.item h.there h.other q)
+            subst (IsFreed x.freed) (sym (ap (freed t e) h.is ∙ freed-goes side t e h.item h.there h.other q)) (on.gone t ct h.item h.there h.other p' (ordered-on side t h.item h.there h.other o'))
 
   -- what the comparison told
-  module _ (f : List ℤ) (o : Order) (told : EntryCompared S.k f ks s c o) (ks' : List ℤ) (ls' : List ℕ) (x : Struck) where
+  module _ {f : List ℤ} {o : Order} (told : EntryCompared S.k f ks s c o) {ks' : List ℤ} {ls' : List ℕ} {x : Struck} where
     pub struck-less : o ≡ Less → StruckOn S.k ks ks' ls ls' c s Left (take S.k f) x → StruckOut S.k ks ks' ls ls' c s (take S.k f) x
     struck-less e on = struck-side Left ks' ls' (take S.k f) x (λ t ct. is-less (cmp t (take S.k f) (numbers_of S.k ks s)) (sym e ∙ told.at t ct)) on
       where

@@ -18,8 +18,8 @@ use Rattle.model.proofs.Strikes.{slots, slots-append, slots-perm}
 use Rattle.cells.specs.Orders.{named, Deeper}
 use Rattle.cells.specs.Slots.{tall, numbers_of, Slot, Keyed, Room, SlotsCompared}
 use Rattle.cells.specs.Memory.{Rep, In, Frame}
-use Rattle.cells.specs.declared.order.Order.{Order}
-use Rattle.cells.specs.declared.order.Order.TheVariants.{Less, Equal, Greater}
+use Rattle.std.specs.declared.cmp.Ordering.{Ordering as Order}
+use Rattle.std.specs.declared.cmp.Ordering.TheVariants.{Less, Equal, Greater}
 use Rattle.cells.proofs.Reps.{Node, open-node, open-nil, unique, rep-frame, frame_self, frame-trans, in_left, in_right, in-cases}
 use Rattle.ask.proofs.Walks.{keyed-in}
 use Rattle.rank.proofs.Merging.{cut-here}
@@ -68,17 +68,17 @@ grown-in t i u j h = ⊎_elim (λ p. in-perm (slots (insert t i u)) (i.slot ∷ 
 
 -- ---- `insert_on`: a node by its side, the leaf to be put in at new
 
-module _ (S : Shape) (ks : List ℤ) (ls : List ℕ) (c s : ℕ) (side : Side) (new : ℕ) (low : c < S.k) (g : Insertable S.k ks ls s new) where
+module _ {K : ℕ} {ks : List ℤ} {ls : List ℕ} {c s : ℕ} (side : Side) {new : ℕ} (low : c < K) (g : Insertable K ks ls s new) where
   -- whatever the parts of the node at s are
-  module _ (i : Item) (u w : Tree) (p : Rep S.k ks ls s (node i (on_side side u w) (on_side side w u))) where
-    half : Halves S.k ks ls s side i u w
-    half = halves S.k ks ls s side i u w p
+  module _ (i : Item) (u w : Tree) (p : Rep K ks ls s (node i (on_side side u w) (on_side side w u))) where
+    half : Halves K ks ls s side i u w
+    half = halves K ks ls s side i u w p
 
     all-perm : PermS (slots (node i (on_side side u w) (on_side side w u))) (s ∷ (slots u ++ slots w))
     all-perm = subst (λ (y : ℕ). PermS (slots (node i (on_side side u w) (on_side side w u))) (y ∷ (slots u ++ slots w))) (sym (ap (λ (y : Item). y.slot) half.item-is)) (whole-perm side i u w)
 
     once-all : OnceEach (new ∷ (s ∷ (slots u ++ slots w)))
-    once-all = once-perm (Permᴰ.cons refl all-perm) (subst (λ (v : Tree). OnceEach (new ∷ slots v)) (unique S.k ks ls s g.tree (node i (on_side side u w) (on_side side w u)) g.rep p) g.once)
+    once-all = once-perm (Permᴰ.cons refl all-perm) (subst (λ (v : Tree). OnceEach (new ∷ slots v)) (unique K ks ls s g.tree (node i (on_side side u w) (on_side side w u)) g.rep p) g.once)
 
     once-new : OnceEach (new ∷ slots u)
     once-new = ((every-split (λ y. ¬ (new ≡ y)) (slots u) (slots w) once-all.0.1).0, (once-split (slots u) (slots w) once-all.1.1).0)
@@ -92,29 +92,29 @@ module _ (S : Shape) (ks : List ℤ) (ls : List ℕ) (c s : ℕ) (side : Side) (
     not_there j h (inr k) = every_in (λ y. ¬ (j ≡ y)) (slots w) (every_in (λ x. Every (λ y. ¬ (x ≡ y)) (slots w)) (slots u) (once-split (slots u) (slots w) once-all.1.1).2 j k) j h refl
 
     -- the child was grown
-    module _ (c' : ℕ) (deep : Deeper S.k c c') (l : ℕ) (el : l ≡ child_at ls s side) (ls₁ : List ℕ) (e₁ : length ls₁ ≡ length ls) (x₁ : ℕ) (a : Inserted S.k ks ls ls₁ c' l new x₁) where
-      there : Rep S.k ks ls l u
+    module _ (c' : ℕ) (deep : Deeper K c c') (l : ℕ) (el : l ≡ child_at ls s side) (ls₁ : List ℕ) (e₁ : length ls₁ ≡ length ls) (x₁ : ℕ) (a : Inserted K ks ls ls₁ c' l new x₁) where
+      there : Rep K ks ls l u
       there = rw el half.there-rep
 
-      grown : (t : ℕ) → cut_field S.k t ≡ c → Rep S.k ks ls₁ x₁ (insert (suc t) (item_in S.k ks new) u)
+      grown : (t : ℕ) → cut_field K t ≡ c → Rep K ks ls₁ x₁ (insert (suc t) (item_in K ks new) u)
       grown t h = a.rep (suc t) (deep.at t h) u there
 
-      other : Rep S.k ks ls₁ (child_at ls₁ s (other_of side)) w
-      other = rw (child-same S.k ks ks ls ls₁ s (other_of side) (a.frame u there s half.slot.some not-here)) (rep-frame S.k ks ks ls ls₁ (new ∷ slots u) e₁ (a.frame u there) (child_at ls s (other_of side)) w not_there half.other_rep)
+      other : Rep K ks ls₁ (child_at ls₁ s (other_of side)) w
+      other = rw (child-same K ks ks ls ls₁ s (other_of side) (a.frame u there s half.slot.some not-here)) (rep-frame K ks ks ls ls₁ (new ∷ slots u) e₁ (a.frame u there) (child_at ls s (other_of side)) w not_there half.other_rep)
 
-      mendable-at : MendableOn S.k ks ls₁ s side x₁
+      mendable-at : MendableOn K ks ls₁ s side x₁
       mendable-at = record {
-        new = insert (suc c) (item_in S.k ks new) u;
+        new = insert (suc c) (item_in K ks new) u;
         old = w;
-        child_rep = grown c (cut-here S.k c low);
+        child_rep = grown c (cut-here K c low);
         other_rep = other;
         here = rw e₁ half.slot;
-        once = once-perm (Permᴰ.symm (sided-perm side s (insert (suc c) (item_in S.k ks new) u) w)) (grown-once (suc c) (item_in S.k ks new) u w s once-all);
+        once = once-perm (Permᴰ.symm (sided-perm side s (insert (suc c) (item_in K ks new) u) w)) (grown-once (suc c) (item_in K ks new) u w s once-all);
       }
 
-      module _ (ls₂ : List ℕ) (x₂ : ℕ) (m : MendedOn S.k ks ls₁ ls₂ c s side x₁ x₂) where
-        mended-rep : (t : ℕ) → cut_field S.k t ≡ c → Rep S.k ks ls₂ x₂ (mend t i (on_side side (insert (suc t) (item_in S.k ks new) u) w) (on_side side w (insert (suc t) (item_in S.k ks new) u)))
-        mended-rep t h = subst (λ (y : Item). Rep S.k ks ls₂ x₂ (mend t y (on_side side (insert (suc t) (item_in S.k ks new) u) w) (on_side side w (insert (suc t) (item_in S.k ks new) u)))) half.item-is (m.rep t h (insert (suc t) (item_in S.k ks new) u) w (grown t h) other)
+      module _ (ls₂ : List ℕ) (x₂ : ℕ) (m : MendedOn K ks ls₁ ls₂ c s side x₁ x₂) where
+        mended-rep : (t : ℕ) → cut_field K t ≡ c → Rep K ks ls₂ x₂ (mend t i (on_side side (insert (suc t) (item_in K ks new) u) w) (on_side side w (insert (suc t) (item_in K ks new) u)))
+        mended-rep t h = subst (λ (y : Item). Rep K ks ls₂ x₂ (mend t y (on_side side (insert (suc t) (item_in K ks new) u) w) (on_side side w (insert (suc t) (item_in K ks new) u)))) half.item-is (m.rep t h (insert (suc t) (item_in K ks new) u) w (grown t h) other)
 
         inside : (j : ℕ) → In j (s ∷ (slots u ++ slots w)) → In j (slots (node i (on_side side u w) (on_side side w u)))
         inside j h = in-perm (s ∷ (slots u ++ slots w)) (slots (node i (on_side side u w) (on_side side w u))) (Permᴰ.symm all-perm) j h
@@ -123,72 +123,72 @@ module _ (S : Shape) (ks : List ℤ) (ls : List ℕ) (c s : ℕ) (side : Side) (
         first j (inl e) = inl e
         first j (inr h) = inr (inside j (inr (in_left j (slots u) (slots w) h)))
 
-        second : (v : Tree) → v ≡ insert (suc c) (item_in S.k ks new) u → (j : ℕ) → In j (s ∷ (slots v ++ slots w)) → In j (new ∷ slots (node i (on_side side u w) (on_side side w u)))
+        second : (v : Tree) → v ≡ insert (suc c) (item_in K ks new) u → (j : ℕ) → In j (s ∷ (slots v ++ slots w)) → In j (new ∷ slots (node i (on_side side u w) (on_side side w u)))
         second v e j (inl q) = inr (inside j (inl q))
-        second v e j (inr h) = ⊎_elim (λ k. first j (grown-in (suc c) (item_in S.k ks new) u j (rw e at k))) (λ k. inr (inside j (inr (in_right j (slots u) (slots w) k)))) (in-cases j (slots v) (slots w) h)
+        second v e j (inr h) = ⊎_elim (λ k. first j (grown-in (suc c) (item_in K ks new) u j (rw e at k))) (λ k. inr (inside j (inr (in_right j (slots u) (slots w) k)))) (in-cases j (slots v) (slots w) h)
 
-        mended-frame : Frame S.k ks ks ls ls₂ (new ∷ slots (node i (on_side side u w) (on_side side w u)))
+        mended-frame : Frame K ks ks ls ls₂ (new ∷ slots (node i (on_side side u w) (on_side side w u)))
         mended-frame =
-            let v : Tree = insert (suc c) (item_in S.k ks new) u in
-            frame-trans S.k ks ks ks ls ls₁ ls₂ (new ∷ slots u) (slots (on_side side v w) ++ (s ∷ slots (on_side side w v))) (a.frame u there) (m.frame v w (grown c (cut-here S.k c low)) other) (new ∷ slots (node i (on_side side u w) (on_side side w u))) first
+            let v : Tree = insert (suc c) (item_in K ks new) u in
+            frame-trans K ks ks ks ls ls₁ ls₂ (new ∷ slots u) (slots (on_side side v w) ++ (s ∷ slots (on_side side w v))) (a.frame u there) (m.frame v w (grown c (cut-here K c low)) other) (new ∷ slots (node i (on_side side u w) (on_side side w u))) first
             (λ j h. second v refl j (in-perm (slots (on_side side v w) ++ (s ∷ slots (on_side side w v))) (s ∷ (slots v ++ slots w)) (sided-perm side s v w) j h))
 
   module _ (some : 0 < s) where
-    parts : (v : Tree) → Rep S.k ks ls s v → Sided side v
-    parts v q = let n : Node S.k ks ls s v = open-node S.k ks ls s v q (λ e. omega arith) in subst (Sided side) (sym n.is) (sided side n.item n.l n.r)
+    parts : (v : Tree) → Rep K ks ls s v → Sided side v
+    parts v q = let n : Node K ks ls s v = open-node K ks ls s v q (λ e. omega arith) in subst (Sided side) (sym n.is) (sided side n.item n.l n.r)
 
-    apart : (v : Tree) (q : Rep S.k ks ls s v) → Rep S.k ks ls s (node (parts v q).item (on_side side (parts v q).there (parts v q).other) (on_side side (parts v q).other (parts v q).there))
-    apart v q = subst (Rep S.k ks ls s) (parts v q).is q
+    apart : (v : Tree) (q : Rep K ks ls s v) → Rep K ks ls s (node (parts v q).item (on_side side (parts v q).there (parts v q).other) (on_side side (parts v q).other (parts v q).there))
+    apart v q = subst (Rep K ks ls s) (parts v q).is q
 
-    mine : Halves S.k ks ls s side (parts g.tree g.rep).item (parts g.tree g.rep).there (parts g.tree g.rep).other
+    mine : Halves K ks ls s side (parts g.tree g.rep).item (parts g.tree g.rep).there (parts g.tree g.rep).other
     mine = half (parts g.tree g.rep).item (parts g.tree g.rep).there (parts g.tree g.rep).other (apart g.tree g.rep)
 
     pub slot-here : Slot (length ls) s
     slot-here = mine.slot
 
-    pub child-falls : (l : ℕ) → l ≡ child_at ls s side → 2 * tall ls l + 1 < 2 * tall ls s
-    child-falls l e = let h : tall ls l < tall ls s = rw e mine.falls in omega arith
+    pub child-falls : {l : ℕ} → l ≡ child_at ls s side → 2 * tall ls l + 1 < 2 * tall ls s
+    child-falls {l} e = let h : tall ls l < tall ls s = rw e mine.falls in omega arith
 
-    pub child-insertable : (l : ℕ) → l ≡ child_at ls s side → Insertable S.k ks ls l new
-    child-insertable l e = record { tree = (parts g.tree g.rep).there; rep = rw e mine.there-rep; leaf = g.leaf; once = once-new (parts g.tree g.rep).item (parts g.tree g.rep).there (parts g.tree g.rep).other (apart g.tree g.rep) }
+    pub child-insertable : {l : ℕ} → l ≡ child_at ls s side → Insertable K ks ls l new
+    child-insertable {l} e = record { tree = (parts g.tree g.rep).there; rep = rw e mine.there-rep; leaf = g.leaf; once = once-new (parts g.tree g.rep).item (parts g.tree g.rep).there (parts g.tree g.rep).other (apart g.tree g.rep) }
 
-    module _ (c' : ℕ) (deep : Deeper S.k c c') (l : ℕ) (el : l ≡ child_at ls s side) (ls₁ : List ℕ) (e₁ : length ls₁ ≡ length ls) (x₁ : ℕ) (a : Inserted S.k ks ls ls₁ c' l new x₁) where
-      pub mendable-on : MendableOn S.k ks ls₁ s side x₁
+    module _ {c' : ℕ} (deep : Deeper K c c') {l : ℕ} (el : l ≡ child_at ls s side) {ls₁ : List ℕ} (e₁ : length ls₁ ≡ length ls) {x₁ : ℕ} (a : Inserted K ks ls ls₁ c' l new x₁) where
+      pub mendable-on : MendableOn K ks ls₁ s side x₁
       mendable-on = mendable-at (parts g.tree g.rep).item (parts g.tree g.rep).there (parts g.tree g.rep).other (apart g.tree g.rep) c' deep l el ls₁ e₁ x₁ a
 
-      pub inserted-on : (ls₂ : List ℕ) (x₂ : ℕ) → MendedOn S.k ks ls₁ ls₂ c s side x₁ x₂ → InsertedOn S.k ks ls ls₂ c s side new x₂
-      inserted-on ls₂ x₂ m = record {
+      pub inserted-on : {ls₂ : List ℕ} {x₂ : ℕ} → MendedOn K ks ls₁ ls₂ c s side x₁ x₂ → InsertedOn K ks ls ls₂ c s side new x₂
+      inserted-on {ls₂} {x₂} m = record {
         rep = λ t h i u w p. mended-rep i u w p c' deep l el ls₁ e₁ x₁ a ls₂ x₂ m t h;
-        frame = λ v q. subst (λ (y : Tree). Frame S.k ks ks ls ls₂ (new ∷ slots y)) (sym (parts v q).is) (mended-frame (parts v q).item (parts v q).there (parts v q).other (apart v q) c' deep l el ls₁ e₁ x₁ a ls₂ x₂ m);
+        frame = λ v q. subst (λ (y : Tree). Frame K ks ks ls ls₂ (new ∷ slots y)) (sym (parts v q).is) (mended-frame (parts v q).item (parts v q).there (parts v q).other (apart v q) c' deep l el ls₁ e₁ x₁ a ls₂ x₂ m);
       }
 
 -- ---- `insert`
 
-pub table-slot : (S : Shape) (nk nl s : ℕ) → Room S nk nl → Slot nl s → (s ≤ 4096) × Keyed S.k nk s
-table-slot S nk nl s room h =
+pub table-slot : {S : Shape} {nk nl s : ℕ} → Room S nk nl → Slot nl s → (s ≤ 4096) × Keyed S.k nk s
+table-slot {S} {nk} {nl} {s} room h =
     let a : 3 * s ≤ nl = h.fits in
     let b = room.long in
     let d = room.c_high in
     let e = h.some in
     (omega arith, keyed-in S nk nl s room (λ q. omega arith) (omega arith))
 
-pub inserted-nil : (K : ℕ) (ks : List ℤ) (ls : List ℕ) (c s new : ℕ) → s ≡ 0 → Insertable K ks ls s new → Inserted K ks ls ls c s new new
+pub inserted-nil : {K : ℕ} {ks : List ℤ} {ls : List ℕ} {c s new : ℕ} → s ≡ 0 → Insertable K ks ls s new → Inserted K ks ls ls c s new new
 unfolding insert
-inserted-nil K ks ls c s new e g = record { rep = λ t h u a. rw (open-nil K ks ls s u a e) g.leaf; frame = λ u a. frame_self K ks ls (new ∷ slots u) }
+inserted-nil {K} {ks} {ls} {c} {s} {new} e g = record { rep = λ t h u a. rw (open-nil K ks ls s u a e) g.leaf; frame = λ u a. frame_self K ks ls (new ∷ slots u) }
 
 named-less : (q : Ordering) → Less ≡ named q → q ≡ Ordering.lt
 named-less Ordering.lt e = refl
-named-less Ordering.eq e = absurd (let z : ◌≡◌ {A = ℕ} 0 1 = cc in omega arith)
-named-less Ordering.gt e = absurd (let z : ◌≡◌ {A = ℕ} 0 1 = cc in omega arith)
+named-less Ordering.eq e = cc
+named-less Ordering.gt e = cc
 
 named-equal : (q : Ordering) → Equal ≡ named q → q ≡ Ordering.eq
-named-equal Ordering.lt e = absurd (let z : ◌≡◌ {A = ℕ} 0 1 = cc in omega arith)
+named-equal Ordering.lt e = cc
 named-equal Ordering.eq e = refl
-named-equal Ordering.gt e = absurd (let z : ◌≡◌ {A = ℕ} 0 1 = cc in omega arith)
+named-equal Ordering.gt e = cc
 
 named-greater : (q : Ordering) → Greater ≡ named q → q ≡ Ordering.gt
-named-greater Ordering.lt e = absurd (let z : ◌≡◌ {A = ℕ} 0 1 = cc in omega arith)
-named-greater Ordering.eq e = absurd (let z : ◌≡◌ {A = ℕ} 0 1 = cc in omega arith)
+named-greater Ordering.lt e = cc
+named-greater Ordering.eq e = cc
 named-greater Ordering.gt e = refl
 
 insert-less : (t : ℕ) (i j : Item) (l r : Tree) → cmp t i.entry j.entry ≡ Ordering.lt → insert t i (node j l r) ≡ mend t j (insert (suc t) i l) r
@@ -203,12 +203,12 @@ insert-greater : (t : ℕ) (i j : Item) (l r : Tree) → cmp t i.entry j.entry �
 unfolding insert
 insert-greater t i j l r e = rw (e, insert) refl
 
-module _ (K : ℕ) (ks : List ℤ) (ls : List ℕ) (c s new : ℕ) (ne : ¬ (s ≡ 0)) (o : Order) (told : SlotsCompared K ks new s c o) where
+module _ {K : ℕ} {ks : List ℤ} {ls : List ℕ} {c s new : ℕ} (ne : ¬ (s ≡ 0)) {o : Order} (told : SlotsCompared K ks new s c o) where
   compared : (q : Order) → o ≡ q → (t : ℕ) → cut_field K t ≡ c → (v : Tree) (n : Node K ks ls s v) → q ≡ named (cmp t (numbers_of K ks new) n.item.entry)
   compared q e t h v n = sym e ∙ told.at t h ∙ ap (λ (y : List ℤ). named (cmp t (numbers_of K ks new) y)) n.entry
 
-  pub inserted-less : (ls' : List ℕ) (x : ℕ) → o ≡ Less → InsertedOn K ks ls ls' c s Left new x → Inserted K ks ls ls' c s new x
-  inserted-less ls' x e m = record { rep = reps; frame = m.frame }
+  pub inserted-less : {ls' : List ℕ} {x : ℕ} → o ≡ Less → InsertedOn K ks ls ls' c s Left new x → Inserted K ks ls ls' c s new x
+  inserted-less {ls'} {x} e m = record { rep = reps; frame = m.frame }
     where
       reps : (t : ℕ) → cut_field K t ≡ c → (v : Tree) → Rep K ks ls s v → Rep K ks ls' x (insert t (item_in K ks new) v)
       reps t h v q =
@@ -225,8 +225,8 @@ module _ (K : ℕ) (ks : List ℤ) (ls : List ℕ) (c s new : ℕ) (ne : ¬ (s �
           let is : insert t (item_in K ks new) v ≡ v = ap (insert t (item_in K ks new)) n.is ∙ insert-equal t (item_in K ks new) n.item n.l n.r (named-equal (cmp t (numbers_of K ks new) n.item.entry) (compared Equal e t h v n)) ∙ sym n.is in
           subst (Rep K ks ls s) (sym is) q
 
-  pub inserted-greater : (ls' : List ℕ) (x : ℕ) → o ≡ Greater → InsertedOn K ks ls ls' c s Right new x → Inserted K ks ls ls' c s new x
-  inserted-greater ls' x e m = record { rep = reps; frame = m.frame }
+  pub inserted-greater : {ls' : List ℕ} {x : ℕ} → o ≡ Greater → InsertedOn K ks ls ls' c s Right new x → Inserted K ks ls ls' c s new x
+  inserted-greater {ls'} {x} e m = record { rep = reps; frame = m.frame }
     where
       reps : (t : ℕ) → cut_field K t ≡ c → (v : Tree) → Rep K ks ls s v → Rep K ks ls' x (insert t (item_in K ks new) v)
       reps t h v q =

@@ -9,6 +9,7 @@ use native.Mathlib.Omega.{arith}
 use lib.ListN.{length, take}
 use lib.Seq.{take_at}
 use lib.IntN.{ℤ}
+use Rattle.std.specs.Prelude.{Some, None}
 use Rattle.model.specs.Answer.{outward}
 use Rattle.model.specs.Entry.{Entry, cut_field, cmp}
 use Rattle.model.specs.Tree.{Item, Tree, node, height, items, slots_of, ordered}
@@ -28,7 +29,7 @@ use Rattle.ask.specs.Standing.{Standing}
 use Rattle.ask.proofs.Walks.{keyed-in}
 use Rattle.seek.specs.Sides.{item_in, way_of, child_at, on_side, higher_of}
 use Rattle.seek.specs.Seeks.{Sought}
-use Rattle.alter.specs.Strikes.{Strikable, StrikableOn, StruckOut, StruckOn}
+use Rattle.alter.specs.Strikes.{IsFreed, Strikable, StrikableOn, StruckOut, StruckOn}
 use Rattle.seek.specs.declared.side.Side.{Side}
 use Rattle.alter.specs.declared.strike.Struck.{Struck}
 use Rattle.alter.proofs.Struck.{every_of, near-in, Sided, sided, apart}
@@ -42,17 +43,17 @@ back : (K : ℕ) (v : Entry) → length v ≡ K → take K (outward v).f ≡ v
 back K v n = take_at v _ K n
 
 -- nothing at no slot was struck
-pub struck-none : (K : ℕ) (ks : List ℤ) (ls : List ℕ) (s c : ℕ) (e : Entry) → s ≡ 0 → StruckOut K ks ks ls ls c s e (record { root = 0; freed = 0 })
+pub struck-none : {K : ℕ} {ks : List ℤ} {ls : List ℕ} {s c : ℕ} {e : Entry} → s ≡ 0 → StruckOut K ks ks ls ls c s e (record { root = 0; freed = None })
 unfolding strike freed
-struck-none K ks ls s c e z = record {
+struck-none {K} {ks} {ls} {s} {c} {e} z = record {
   rep = λ t ct u p o. subst (λ (v : Tree). Rep K ks ls 0 (strike t e v)) (sym (open-nil K ks ls s u p z)) refl;
-  gone = λ t ct u p o. subst (λ (v : Tree). 0 ≡ freed t e v) (sym (open-nil K ks ls s u p z)) refl;
+  gone = λ t ct u p o. subst (λ (v : Tree). freed t e v ≡ 0) (sym (open-nil K ks ls s u p z)) refl;
   frame = λ u p. frame_self K ks ls (slots u);
 }
 
 -- side is the higher side of s, and child stands there
-module _ (S : Shape) (ks : List ℤ) (ls : List ℕ) (s c : ℕ) (m : Room S (length ks) (length ls)) (ne : ¬ (s ≡ 0)) (g : Strikable S.k ks ls s c)
-    (side : Side) (q : side ≡ higher_of (tall ls (left_at ls s)) (tall ls (right_at ls s))) (child : ℕ) (qc : child ≡ child_at ls s side) where
+module _ {S : Shape} {ks : List ℤ} {ls : List ℕ} {s c : ℕ} (m : Room S (length ks) (length ls)) (ne : ¬ (s ≡ 0)) (g : Strikable S.k ks ls s c)
+    {side : Side} (q : side ≡ higher_of (tall ls (left_at ls s)) (tall ls (right_at ls s))) {child : ℕ} (qc : child ≡ child_at ls s side) where
   -- a tree at s as a node by that side
   module _ (t : ℕ) (u : Tree) (p : Rep S.k ks ls s u) where
     pub cut : Split side u
@@ -82,7 +83,7 @@ module _ (S : Shape) (ks : List ℤ) (ls : List ℕ) (s c : ℕ) (m : Room S (le
         heir-side t l r ∙ ap (λ (x : Side). heir_of (way_of x) t (on_side x l r)) d ∙ ap (heir_of (way_of side) t) (on-on side cut.there cut.other)
 
   -- no child on the higher side: a leaf
-  pub struck-leaf : child ≡ 0 → StruckOut S.k ks ks ls ls c s (numbers_of S.k ks s) (record { root = 0; freed = s })
+  pub struck-leaf : child ≡ 0 → StruckOut S.k ks ks ls ls c s (numbers_of S.k ks s) (record { root = 0; freed = Some s })
   struck-leaf z = record { rep = rep; gone = gone; frame = λ u p. frame_self S.k ks ls (slots u) }
     where
       ends : (t : ℕ) (u : Tree) (p : Rep S.k ks ls s u) → heir t (on_side side (cut t u p).there (cut t u p).other) (on_side side (cut t u p).other (cut t u p).there) ≡ leaf
@@ -95,15 +96,15 @@ module _ (S : Shape) (ks : List ℤ) (ls : List ℕ) (s c : ℕ) (m : Room S (le
       gone t ct u p o = (known t u p).here ∙ sym (ap (freed t (numbers_of S.k ks s)) (cut t u p).is ∙ freed_ends t (numbers_of S.k ks s) (cut t u p).item (on_side side (cut t u p).there (cut t u p).other) (on_side side (cut t u p).other (cut t u p).there) (itself t u p) (ends t u p))
 
   -- a child: the replacement is sought in its tree, which is cut at c'
-  module _ (nc : ¬ (child ≡ 0)) (c' : ℕ) (d : Deeper S.k c c') where
+  module _ (nc : ¬ (child ≡ 0)) {c' : ℕ} (d : Deeper S.k c c') where
     on : StrikableOn S.k ks ls s c side
-    on = side-ready S ks ls s c m ne g side
+    on = side-ready m ne g side
 
     near_on : Rep S.k ks ls child on.there
     near_on = subst (λ (j : ℕ). Rep S.k ks ls j on.there) (sym qc) (sided S.k ks ls s side on.item on.there on.other on.rep).near
 
     in_tree : (j : ℕ) → In j (slots on.there) → InPool S.c j
-    in_tree j h = pooled S ks ls s c m ne g j (subst (λ (v : Tree). In j (slots v)) (unique S.k ks ls s (node on.item (on_side side on.there on.other) (on_side side on.other on.there)) g.tree on.rep g.stands.rep) (near-in side on.item on.there on.other j h))
+    in_tree j h = pooled m ne g j (subst (λ (v : Tree). In j (slots v)) (unique S.k ks ls s (node on.item (on_side side on.there on.other) (on_side side on.other on.there)) g.tree on.rep g.stands.rep) (near-in side on.item on.there on.other j h))
 
     pub child-stands : Standing S.k ks ls child c' S.c
     child-stands = record {
@@ -112,7 +113,7 @@ module _ (S : Shape) (ks : List ℤ) (ls : List ℕ) (s c : ℕ) (m : Room S (le
       few = (let a = few S.c (slots on.there) (apart side on.item on.there on.other on.once).once (every_of (InPool S.c) (slots on.there) in_tree) in let b = slots_length (items on.there) in omega arith);
     }
 
-    module _ (x : ℕ) (so : Sought S.k ks ls side c child c' x) where
+    module _ {x : ℕ} (so : Sought S.k ks ls side c child c' x) where
       -- the replacement in any tree that stands at the child
       module _ (t : ℕ) (ct : cut_field S.k t ≡ c) (v : Tree) (p : Rep S.k ks ls child v) (o : ordered (suc t) v ≡ true) where
         child-node : Node S.k ks ls child v
@@ -143,7 +144,7 @@ module _ (S : Shape) (ks : List ℤ) (ls : List ℕ) (s c : ℕ) (m : Room S (le
       heir-small = let a = heir-pool.1 in let b = m.c_high in omega arith
 
       -- its numbers were read as those of a, and written to s
-      module _ (a : Four) (qa : a ≡ outward (numbers_of S.k ks x)) (ks₁ : List ℤ) (wr : Wrote S.k ks ks₁ s (take S.k a.f)) where
+      module _ {a : Four} (qa : a ≡ outward (numbers_of S.k ks x)) {ks₁ : List ℤ} (wr : Wrote S.k ks ks₁ s (take S.k a.f)) where
         abbrev e : Entry
         e = take S.k a.f
 
@@ -162,8 +163,8 @@ module _ (S : Shape) (ks : List ℤ) (ls : List ℕ) (s c : ℕ) (m : Room S (le
           once = subst OnceEach (sym (slots-moved on.item e (on_side side on.there on.other) (on_side side on.other on.there))) on.once;
         }
 
-        pub replaced : (ks' : List ℤ) (ls' : List ℕ) (z : Struck) → StruckOn S.k ks₁ ks' ls ls' c s side (take S.k a.f) z → StruckOut S.k ks ks' ls ls' c s (numbers_of S.k ks s) z
-        replaced ks' ls' z st = record { rep = rep; gone = gone; frame = frame }
+        pub replaced : {ks' : List ℤ} {ls' : List ℕ} {z : Struck} → StruckOn S.k ks₁ ks' ls ls' c s side (take S.k a.f) z → StruckOut S.k ks ks' ls ls' c s (numbers_of S.k ks s) z
+        replaced {ks'} {ls'} {z} st = record { rep = rep; gone = gone; frame = frame }
           where
             k : Entry
             k = numbers_of S.k ks s
@@ -171,7 +172,7 @@ module _ (S : Shape) (ks : List ℤ) (ls : List ℕ) (s c : ℕ) (m : Room S (le
             new-rep : (t : ℕ) (u : Tree) (p : Rep S.k ks ls s u) → Rep S.k ks₁ ls s (node (moved (cut t u p).item e) (on_side side (cut t u p).there (cut t u p).other) (on_side side (cut t u p).other (cut t u p).there))
             new-rep t u p =
                 let h = cut t u p in
-                rewritten S.k ks ks₁ ls s e h.item (on_side side h.there h.other) (on_side side h.other h.there) wr (subst (λ (v : Tree). OnceEach (slots v)) h.is (once-any S ks ls s c m ne g u p)) (at_cut t u p)
+                rewritten S.k ks ks₁ ls s e h.item (on_side side h.there h.other) (on_side side h.other h.there) wr (subst (λ (v : Tree). OnceEach (slots v)) h.is (once-any m ne g u p)) (at_cut t u p)
 
             in_order : (t : ℕ) (u : Tree) (p : Rep S.k ks ls s u) → ordered t u ≡ true → ordered (suc t) (cut t u p).there ≡ true
             in_order t u p o = let h = cut t u p in ordered-on side t h.item h.there h.other (subst (λ (v : Tree). ordered t v ≡ true) h.is o)
@@ -184,10 +185,10 @@ module _ (S : Shape) (ks : List ℤ) (ls : List ℕ) (s c : ℕ) (m : Room S (le
                 let h = cut t u p in
                 subst (Rep S.k ks' ls' z.root) (sym (ap (strike t k) h.is ∙ strike-takes side t k e h.item h.there h.other (itself t u p) (takes t ct u p o))) (st.rep t ct (moved h.item e) h.there h.other (new-rep t u p) (in_order t u p o))
 
-            gone : (t : ℕ) → cut_field S.k t ≡ c → (u : Tree) → Rep S.k ks ls s u → ordered t u ≡ true → z.freed ≡ freed t k u
+            gone : (t : ℕ) → cut_field S.k t ≡ c → (u : Tree) → Rep S.k ks ls s u → ordered t u ≡ true → IsFreed z.freed (freed t k u)
             gone t ct u p o =
                 let h = cut t u p in
-                st.gone t ct (moved h.item e) h.there h.other (new-rep t u p) (in_order t u p o) ∙ sym (ap (freed t k) h.is ∙ freed-takes side t k e h.item h.there h.other (itself t u p) (takes t ct u p o))
+                subst (IsFreed z.freed) (sym (ap (freed t k) h.is ∙ freed-takes side t k e h.item h.there h.other (itself t u p) (takes t ct u p o))) (st.gone t ct (moved h.item e) h.there h.other (new-rep t u p) (in_order t u p o))
 
             frame : (u : Tree) → Rep S.k ks ls s u → Frame S.k ks ks' ls ls' (slots u)
             frame u p =

@@ -134,12 +134,12 @@ sided-fewer Right i u u' w f = rw (slots-append (items w) (i ∷ items u)) (fewe
 
 -- ---- before the strike of a side
 
-module _ (K : ℕ) (ks : List ℤ) (ls : List ℕ) (s c : ℕ) (side : Side) (g : StrikableOn K ks ls s c side) where
+module _ {K : ℕ} {ks : List ℤ} {ls : List ℕ} {s c : ℕ} {side : Side} (g : StrikableOn K ks ls s c side) where
   pub on-parts : Sided K ks ls s side g.item g.there g.other
   on-parts = sided K ks ls s side g.item g.there g.other g.rep
 
-  pub side-falls : (child : ℕ) → child ≡ child_at ls s side → tall ls child < tall ls s
-  side-falls child q =
+  pub side-falls : {child : ℕ} → child ≡ child_at ls s side → tall ls child < tall ls s
+  side-falls {child} q =
       let p = on-parts in
       let a : tall ls child ≡ height g.there = rw q (tall-rep K ks ls (child_at ls s side) g.there p.near) in
       let k : 1 ≤ s = p.slot.some in
@@ -147,8 +147,8 @@ module _ (K : ℕ) (ks : List ℤ) (ls : List ℕ) (s c : ℕ) (side : Side) (g 
       let h = p.higher in
       omega arith
 
-  pub side-strikable : (child c' : ℕ) → child ≡ child_at ls s side → Deeper K c c' → Strikable K ks ls child c'
-  side-strikable child c' q d = record {
+  pub side-strikable : {child c' : ℕ} → child ≡ child_at ls s side → Deeper K c c' → Strikable K ks ls child c'
+  side-strikable {child} {c'} q d = record {
     tree = g.there;
     stands = record { depth = suc g.depth; cut = d.at g.depth g.cut; rep = rw q on-parts.near; in_order = g.in_order };
     once = (apart side g.item g.there g.other g.once).once;
@@ -210,8 +210,8 @@ module _ (K : ℕ) (ks ks' : List ℤ) (ls ls' : List ℕ) (s c c' child : ℕ) 
     once-any : (u : Tree) → Rep K ks ls s u → OnceEach (slots u)
     once-any u p = subst (λ (v : Tree). OnceEach (slots v)) (unique K ks ls s (node g.item (on_side side g.there g.other) (on_side side g.other g.there)) u g.rep p) g.once
 
-    pub struck-on : (ls'' : List ℕ) (root : ℕ) → MendedOn K ks' ls' ls'' c s side x.root root → StruckOn K ks ks' ls ls'' c s side e (record { root = root; freed = x.freed })
-    struck-on ls'' root m = record {
+    pub struck-on : {ls'' : List ℕ} {root : ℕ} → MendedOn K ks' ls' ls'' c s side x.root root → StruckOn K ks ks' ls ls'' c s side e (record { root = root; freed = x.freed })
+    struck-on {ls''} {root} m = record {
       rep = λ t ct i u w p o. mended-rep t ct i u w p o (once-any (node i (on_side side u w) (on_side side w u)) p) ls'' root m;
       gone = λ t ct i u w p o. st.gone (suc t) (d.at t ct) u (rw q (sided K ks ls s side i u w p).near) o;
       frame = λ u p. subst (λ (v : Tree). Frame K ks ks' ls ls'' (slots v)) (unique K ks ls s (node g.item (on_side side g.there g.other) (on_side side g.other g.there)) u g.rep p) (mended-frame g.depth g.cut g.item g.there g.other g.rep g.in_order g.once ls'' root m);

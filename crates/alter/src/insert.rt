@@ -1,11 +1,13 @@
 // A new leaf put into a tree, and the upward check along its path.
-ghost use Rattle.std.specs.Prelude.{◌≡◌, ◌<◌, length, replicate};
+ghost use Rattle.std.specs.Prelude.{◌≡◌, ◌<◌, length};
 ghost use Rattle.cells.specs.Slots.{Room};
+ghost use Rattle.mend.specs.Lists.{Blank, Kept};
 ghost use Rattle.alter.specs.Alters.{Insertable, Inserted, InsertedOn};
 
-use cells::order::Order;
+use mend::lists::Lists;
 use model::Shape;
 use seek::side::Side;
+use std::cmp::Ordering;
 
 // Puts the leaf in slot `new` into the tree at s and mends every entry of its path; returns the root.
 #[cycle(insert_insert_on)]
@@ -16,24 +18,23 @@ pub fn insert(
     cut: usize,
     s: usize,
     new: usize,
-    scratch: &mut [usize],
-    spare: &mut [usize],
+    lists: &mut Lists<'_>,
 ) -> usize
     requires room { Room shape (length keys.now) (length links.old) × (cut < shape.k) }
     requires insertable { Insertable shape.k keys.now links.old s new }
-    requires scratch_value { (scratch.old ≡ replicate shape.c 0) × (length spare.old ≡ shape.c) }
+    requires lists { Blank shape.c lists.old }
     ensures tree { Inserted shape.k keys.now links.old links.new cut s new result }
-    ensures scratch { scratch.new ≡ replicate shape.c 0 }
+    ensures lists { Kept shape.c lists.old lists.new }
 {
     if s == 0 {
         return new;
     }
-    let o = cells::slot::compare_slots(keys, shape, new, s, cut);
-    match o {
-        Order::Less => insert_on(keys, links, shape, cut, s, Side::Left, new, scratch, spare),
-        Order::Equal => s,
-        Order::Greater => insert_on(keys, links, shape, cut, s, Side::Right, new, scratch, spare),
-    }
+    let side = match cells::slot::compare_slots(keys, shape, new, s, cut) {
+        Ordering::Less => Side::Left,
+        Ordering::Equal => return s,
+        Ordering::Greater => Side::Right,
+    };
+    insert_on(keys, links, shape, cut, s, side, new, lists)
 }
 
 // The same into the child of s on a side; then s is mended.
@@ -46,17 +47,16 @@ pub fn insert_on(
     s: usize,
     side: Side,
     new: usize,
-    scratch: &mut [usize],
-    spare: &mut [usize],
+    lists: &mut Lists<'_>,
 ) -> usize
     requires room { Room shape (length keys.now) (length links.old) × ((cut < shape.k) × (0 < s)) }
     requires insertable { Insertable shape.k keys.now links.old s new }
-    requires scratch_value { (scratch.old ≡ replicate shape.c 0) × (length spare.old ≡ shape.c) }
+    requires lists { Blank shape.c lists.old }
     ensures tree { InsertedOn shape.k keys.now links.old links.new cut s side new result }
-    ensures scratch { scratch.new ≡ replicate shape.c 0 }
+    ensures lists { Kept shape.c lists.old lists.new }
 {
     let next = cells::order::next_cut(shape, cut);
-    let child = seek::side::child_of(links, s, side);
-    let grown = insert(keys, links, shape, next, child, new, scratch, spare);
-    mend::upward::mend_on(keys, links, shape, cut, s, side, grown, scratch, spare)
+    let child = side.child_of(links, s);
+    let grown = insert(keys, links, shape, next, child, new, lists);
+    mend::upward::mend_on(keys, links, shape, cut, s, side, grown, lists)
 }

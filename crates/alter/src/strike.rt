@@ -1,17 +1,19 @@
 // One entry taken out of a tree.
-ghost use Rattle.std.specs.Prelude.{◌≡◌, ◌<◌, length, replicate, take};
+ghost use Rattle.std.specs.Prelude.{◌≡◌, ◌<◌, length, take};
 ghost use Rattle.cells.specs.Slots.{numbers_of, Room};
+ghost use Rattle.mend.specs.Lists.{Blank, Kept};
 ghost use Rattle.alter.specs.Strikes.{Strikable, StrikableOn, StruckOut, StruckOn};
 
-use cells::order::Order;
+use mend::lists::Lists;
 use model::{Entry, Shape};
 use seek::side::Side;
+use std::cmp::Ordering;
 
-// The root that is left and the slot that is given up, 0 where the entry is not there.
+// The root that is left and the slot that is given up, None where the entry is not there.
 #[derive(Clone, Copy)]
 pub struct Struck {
     pub root: usize,
-    pub freed: usize,
+    pub freed: Option<usize>,
 }
 
 // Strikes an entry from the tree at s; every former ancestor of the leaf that goes is mended.
@@ -23,24 +25,26 @@ pub fn strike(
     cut: usize,
     s: usize,
     e: Entry,
-    scratch: &mut [usize],
-    spare: &mut [usize],
+    lists: &mut Lists<'_>,
 ) -> Struck
     requires room { Room shape (length keys.old) (length links.old) × (cut < shape.k) }
     requires strikable { Strikable shape.k keys.old links.old s cut }
-    requires scratch_value { (scratch.old ≡ replicate shape.c 0) × (length spare.old ≡ shape.c) }
+    requires lists { Blank shape.c lists.old }
     ensures tree { StruckOut shape.k keys.old keys.new links.old links.new cut s (take shape.k e.f) result }
-    ensures scratch { scratch.new ≡ replicate shape.c 0 }
+    ensures lists { Kept shape.c lists.old lists.new }
 {
     if s == 0 {
-        return Struck { root: 0, freed: 0 };
+        return Struck {
+            root: 0,
+            freed: None,
+        };
     }
-    let o = cells::slot::compare_entry(e, keys, shape, s, cut);
-    match o {
-        Order::Less => strike_on(keys, links, shape, cut, s, Side::Left, e, scratch, spare),
-        Order::Equal => replace(keys, links, shape, cut, s, scratch, spare),
-        Order::Greater => strike_on(keys, links, shape, cut, s, Side::Right, e, scratch, spare),
-    }
+    let side = match cells::slot::compare_entry(e, keys, shape, s, cut) {
+        Ordering::Less => Side::Left,
+        Ordering::Equal => return replace(keys, links, shape, cut, s, lists),
+        Ordering::Greater => Side::Right,
+    };
+    strike_on(keys, links, shape, cut, s, side, e, lists)
 }
 
 // The entry at s itself: a leaf goes; else its replacement's numbers are copied here and struck from their side.
@@ -51,25 +55,27 @@ pub fn replace(
     shape: Shape,
     cut: usize,
     s: usize,
-    scratch: &mut [usize],
-    spare: &mut [usize],
+    lists: &mut Lists<'_>,
 ) -> Struck
     requires room { Room shape (length keys.old) (length links.old) × ((cut < shape.k) × (0 < s)) }
     requires strikable { Strikable shape.k keys.old links.old s cut }
-    requires scratch_value { (scratch.old ≡ replicate shape.c 0) × (length spare.old ≡ shape.c) }
+    requires lists { Blank shape.c lists.old }
     ensures tree { StruckOut shape.k keys.old keys.new links.old links.new cut s (numbers_of shape.k keys.old s) result }
-    ensures scratch { scratch.new ≡ replicate shape.c 0 }
+    ensures lists { Kept shape.c lists.old lists.new }
 {
-    let side = seek::side::higher(links, s);
-    let child = seek::side::child_of(links, s, side);
+    let side = Side::higher(links, s);
+    let child = side.child_of(links, s);
     if child == 0 {
-        return Struck { root: 0, freed: s };
+        return Struck {
+            root: 0,
+            freed: Some(s),
+        };
     }
     let next = cells::order::next_cut(shape, cut);
     let heir = seek::search::seek(keys, links, shape, side, cut, child, next);
-    let e = cells::slot::entry_at(keys, shape, heir);
-    cells::slot::put_entry(keys, shape, s, e);
-    strike_on(keys, links, shape, cut, s, side, e, scratch, spare)
+    let numbers = cells::slot::entry_at(keys, shape, heir);
+    cells::slot::put_entry(keys, shape, s, numbers);
+    strike_on(keys, links, shape, cut, s, side, numbers, lists)
 }
 
 // Strikes an entry from the child of s on a side; then s is mended.
@@ -82,21 +88,17 @@ pub fn strike_on(
     s: usize,
     side: Side,
     e: Entry,
-    scratch: &mut [usize],
-    spare: &mut [usize],
+    lists: &mut Lists<'_>,
 ) -> Struck
     requires room { Room shape (length keys.old) (length links.old) × ((cut < shape.k) × (0 < s)) }
     requires strikable_on { StrikableOn shape.k keys.old links.old s cut side }
-    requires scratch_value { (scratch.old ≡ replicate shape.c 0) × (length spare.old ≡ shape.c) }
+    requires lists { Blank shape.c lists.old }
     ensures tree { StruckOn shape.k keys.old keys.new links.old links.new cut s side (take shape.k e.f) result }
-    ensures scratch { scratch.new ≡ replicate shape.c 0 }
+    ensures lists { Kept shape.c lists.old lists.new }
 {
     let next = cells::order::next_cut(shape, cut);
-    let child = seek::side::child_of(links, s, side);
-    let x = strike(keys, links, shape, next, child, e, scratch, spare);
-    let root = mend::upward::mend_on(keys, links, shape, cut, s, side, x.root, scratch, spare);
-    Struck {
-        root,
-        freed: x.freed,
-    }
+    let child = side.child_of(links, s);
+    let x = strike(keys, links, shape, next, child, e, lists);
+    let root = mend::upward::mend_on(keys, links, shape, cut, s, side, x.root, lists);
+    Struck { root, ..x }
 }

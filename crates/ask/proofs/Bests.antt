@@ -3,7 +3,8 @@ use mathlib.Core.Path.{◌≡◌, refl, sym, ap, ◌∙◌}
 use mathlib.Core.Logic.{◌⊎◌, inl, inr, ⊎_elim}
 use mathlib.Core.Bool.{Bool, true, ◌&&◌}
 use mathlib.Core.List.Memᴰ
-use mathlib.Core.List.{List, ◌∷◌, ◌++◌, Memᴰ}
+use mathlib.Core.List.{List, [], ◌∷◌, ◌++◌, Memᴰ}
+use Rattle.std.proofs.Common.{Option, None, Some}
 use Prim.Native.Nat.{ℕ, ◌*◌, ◌≤◌}
 use native.Mathlib.Omega.{arith}
 use lib.ListN.{length}
@@ -50,38 +51,40 @@ mem_long S ks ls m s u p j h =
 -- ---- the best of some items
 
 module _ (K : ℕ) (ks : List ℤ) (steps : List ℕ) (q : Entry) where
-  -- of some items there is one
-  pub filled : (z : List Item) (i : Item) (b : Best) → Memᴰ i z → BestOf K ks steps q z b → Chosen K ks steps q z b
-  filled z i b m (inl n) = absurd (Memᴰ.not-nil (rw n.empty at m))
-  filled z i b m (inr h) = h
-
   -- more items, each of them an old one or not better
   pub chosen_more : (a z : List Item) (b : Best) → Chosen K ks steps q a b → ((j : Item) → Memᴰ j a → Memᴰ j z) → ((j : Item) → Memᴰ j z → Memᴰ j a ⊎ AsGood steps q (numbers_of K ks b.slot) j.entry) → Chosen K ks steps q z b
   chosen_more a z b h f g = record { some = h.some; one = f (item_of K ks b.slot) h.one; away = h.away; good = λ j m. ⊎_elim (h.good j) (λ x. x) (g j m) }
 
+  -- some items, and the same again in another list
+  pub best_more : (a z : List Item) (i : Item) (o : Option Best) → Memᴰ i a → BestOf K ks steps q a o → ((j : Item) → Memᴰ j a → Memᴰ j z) → ((j : Item) → Memᴰ j z → Memᴰ j a) → BestOf K ks steps q z o
+  best_more a z i None m n f g = absurd (Memᴰ.not-nil (rw n at m))
+  best_more a z i (Some b) m h f g = chosen_more a z b h f (λ j k. inl (g j k))
+
+  self : (s : ℕ) → AsGood steps q (numbers_of K ks s) (numbers_of K ks s)
+  self s = record { near = omega arith; tie = λ y h. less-unlike 0 (numbers_of K ks s) (numbers_of K ks s) h refl }
+
   -- the entry in slot s seen after the best of some items
-  pub visited : (b : Best) (s d : ℕ) (r : Best) → ¬ (s ≡ 0) → d ≡ distance steps q (numbers_of K ks s) → Bettered K ks b s d r → Visited K ks steps q b s r
-  visited b s d r ne e (inl x) = record { which = inl (ap (λ (y : Best). y.slot) x.is); chosen = λ held h. rw x.is (old held h) }
+  pub visited : (b : Option Best) (s d : ℕ) (r : Best) → ¬ (s ≡ 0) → d ≡ distance steps q (numbers_of K ks s) → Bettered K ks b s d r → Visited K ks steps q b s r
+  visited None s d r ne e x = record { which = inr (ap (λ (y : Best). y.slot) x); chosen = λ held h. rw x (new held h) }
     where
-      old : (held : List Item) → BestOf K ks steps q held b → Chosen K ks steps q (item_of K ks s ∷ held) b
-      old held (inl n) = absurd (x.some n.none)
-      old held (inr h) =
+      new : (held : List Item) → held ≡ [] → Chosen K ks steps q (item_of K ks s ∷ held) (record { slot = s; distance = d })
+      new held n = record { some = ne; one = Memᴰ.head refl; away = e; good = λ j m. ⊎_elim (λ y. rw y (self s)) (λ y. absurd (Memᴰ.not-nil (rw n at y))) (Memᴰ.cases_cons m) }
+  visited (Some b) s d r ne e (inl x) = record { which = inl (ap Some (sym x.is)); chosen = λ held h. rw x.is (old held h) }
+    where
+      old : (held : List Item) → Chosen K ks steps q held b → Chosen K ks steps q (item_of K ks s ∷ held) b
+      old held h =
           let w : b.distance ≡ distance steps q (numbers_of K ks b.slot) = h.away in
           let n : b.distance ≤ d = x.near in
           let g : AsGood steps q (numbers_of K ks b.slot) (numbers_of K ks s) = record { near = omega arith; tie = λ y. x.tie (omega arith) } in
           chosen_more held (item_of K ks s ∷ held) b h (λ j m. Memᴰ.tail m) (λ j m. ⊎_elim (λ y. inr (rw y g)) (λ y. inl y) (Memᴰ.cases_cons m))
-  visited b s d r ne e (inr x) = record { which = inr (ap (λ (y : Best). y.slot) x.is); chosen = λ held h. rw x.is (new held h) }
+  visited (Some b) s d r ne e (inr x) = record { which = inr (ap (λ (y : Best). y.slot) x.is); chosen = λ held h. rw x.is (new held h) }
     where
-      self : AsGood steps q (numbers_of K ks s) (numbers_of K ks s)
-      self = record { near = omega arith; tie = λ y h. less-unlike 0 (numbers_of K ks s) (numbers_of K ks s) h refl }
-
-      new : (held : List Item) → BestOf K ks steps q held b → Chosen K ks steps q (item_of K ks s ∷ held) (record { slot = s; distance = d })
-      new held (inl n) = record { some = ne; one = Memᴰ.head refl; away = e; good = λ j m. ⊎_elim (λ y. rw y self) (λ y. absurd (Memᴰ.not-nil (rw n.empty at y))) (Memᴰ.cases_cons m) }
-      new held (inr h) =
+      new : (held : List Item) → Chosen K ks steps q held b → Chosen K ks steps q (item_of K ks s ∷ held) (record { slot = s; distance = d })
+      new held h =
           let w : b.distance ≡ distance steps q (numbers_of K ks b.slot) = h.away in
-          let n : d ≤ b.distance = x.near h.some in
-          let g : AsGood steps q (numbers_of K ks s) (numbers_of K ks b.slot) = record { near = omega arith; tie = λ y. x.tie h.some (omega arith) } in
-          record { some = ne; one = Memᴰ.head refl; away = e; good = λ j m. ⊎_elim (λ y. rw y self) (λ y. good-trans steps q (numbers_of K ks s) (numbers_of K ks b.slot) j.entry g (h.good j y)) (Memᴰ.cases_cons m) }
+          let n : d ≤ b.distance = x.near in
+          let g : AsGood steps q (numbers_of K ks s) (numbers_of K ks b.slot) = record { near = omega arith; tie = λ y. x.tie (omega arith) } in
+          record { some = ne; one = Memᴰ.head refl; away = e; good = λ j m. ⊎_elim (λ y. rw y (self s)) (λ y. good-trans steps q (numbers_of K ks s) (numbers_of K ks b.slot) j.entry g (h.good j y)) (Memᴰ.cases_cons m) }
 
 -- ---- a node's items as those of one side with its own, and those of the other side
 

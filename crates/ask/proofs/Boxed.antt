@@ -2,11 +2,10 @@
 use mathlib.Core.Path.{◌≡◌, refl, sym, ap, ◌∙◌}
 use mathlib.Core.Bool.{Bool, true, false, ◌&&◌, true≢false, false≢true}
 use mathlib.Core.List.{List, [], ◌∷◌, ◌++◌}
-use Prim.Native.Nat.{ℕ, zero, suc, ◌+◌, ◌^◌, ◌≤◌, ◌<◌, Ordering}
+use Prim.Native.Nat.{ℕ, zero, suc, ◌^◌, ◌≤◌, ◌<◌, Ordering}
 use native.Mathlib.Omega.{arith}
-use native.Mathlib.Nat.{add-zero}
 use lib.Dec.{is_le}
-use lib.ListN.{length, get_or, set}
+use lib.ListN.{length, get_or}
 use lib.IntN.{ℤ, pos}
 use lib.Signed.{mag}
 use mir.Syntax.{w64}
@@ -22,14 +21,8 @@ use Rattle.model.proofs.Trees.{both}
 use Rattle.cells.specs.Slots.{left_at, right_at, numbers_of, Slot}
 use Rattle.cells.specs.Memory.{Rep}
 use Rattle.model.proofs.Machine.{back}
-use Rattle.ask.specs.Boxes.{is_lower_open, is_upper_open, Weighed, boxed, noting, Noted}
+use Rattle.ask.specs.Boxes.{is_lower_open, is_upper_open, Weighed, boxed, noting}
 use Rattle.ask.specs.declared.boxes.Sides.{Sides}
-
-pub noted-yes : (w : Bool) (s : ℕ) (before : List ℕ) (at : ℕ) → w ≡ true → Noted w s before (set before at s) at (at + 1)
-noted-yes w s before at e = rw e (record { next = refl; written = refl })
-
-pub noted-no : (w : Bool) (s : ℕ) (before : List ℕ) (at : ℕ) → w ≡ false → Noted w s before before at at
-noted-no w s before at e = rw e (record { next = sym (add-zero at); written = refl })
 
 pub weighed : (bs : List Bound) (p : Entry) (c : ℕ) (w : Sides) → mag (get_or p c (pos 0)) < 2 ^ 63
     → w.lower ≡ is_lower_open (get_or bs c Free) (to_z w64 (of_z w64 (get_or p c (pos 0)))) → w.here ≡ in_box bs p → w.upper ≡ is_upper_open (get_or bs c Free) (to_z w64 (of_z w64 (get_or p c (pos 0)))) → Weighed bs p c w

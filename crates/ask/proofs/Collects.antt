@@ -38,6 +38,13 @@ pub collected-nil : (K : ℕ) (ks : List ℤ) (ls : List ℕ) (s c : ℕ) (bs : 
 collected-nil K ks ls s c bs before at e =
     record { next = λ u st. (skipped bs before at u (ap (λ (v : Tree). boxed bs (items v)) (none-stands K ks ls s c e u st))).0; written = λ u st. (skipped bs before at u (ap (λ (v : Tree). boxed bs (items v)) (none-stands K ks ls s c e u st))).1 }
 
+-- the lower side of slot s done, and the upper one: each taken or left out
+pub record Lower (K : ℕ) (ks : List ℤ) (ls : List ℕ) (s c : ℕ) (bs : List Bound) (ne : ¬ (s ≡ 0)) (before after : List ℕ) (at r : ℕ) : Type 0 where
+  pub step : (u : Tree) (st : Stands K ks ls s c u) → Step bs before after at r (top K ks ls s c ne u st).l
+
+pub record Upper (K : ℕ) (ks : List ℤ) (ls : List ℕ) (s c : ℕ) (bs : List Bound) (ne : ¬ (s ≡ 0)) (before after : List ℕ) (at r : ℕ) : Type 0 where
+  pub step : (u : Tree) (st : Stands K ks ls s c u) → Step bs before after at r (top K ks ls s c ne u st).r
+
 module _ (S : Shape) (ks : List ℤ) (ls : List ℕ) (s c : ℕ) (bs : List Bound) (m : Room S (length ks) (length ls)) (h : c < S.k) (four : length bs ≡ 4) (ne : ¬ (s ≡ 0)) (w : Sides) (wt : Weighed bs (numbers_of S.k ks s) c w) where
   long : (j : ℕ) → Slot (length ls) j → length (numbers_of S.k ks j) ≡ S.k
   long j o = numbers-long S.k ks j (keyed-in S (length ks) (length ls) j m (λ e. (let a = o.some in omega arith)) (let a : 3 * j ≤ length ls = o.fits in let b = m.long in omega arith))
@@ -45,39 +52,40 @@ module _ (S : Shape) (ks : List ℤ) (ls : List ℕ) (s c : ℕ) (bs : List Boun
   in_bounds : c < length bs
   in_bounds = let a = m.k_high in omega arith
 
-  -- the lower side
-  abbrev pub Lower : List ℕ → List ℕ → ℕ → ℕ → Type 0
-  Lower before after at r = (u : Tree) (st : Stands S.k ks ls s c u) → Step bs before after at r (top S.k ks ls s c ne u st).l
+  pub lower-taken : (c' l : ℕ) (before after : List ℕ) (at r : ℕ) → Deeper S.k c c' → l ≡ left_at ls s → Collected S.k ks ls l c' bs before after at r → Lower S.k ks ls s c bs ne before after at r
+  lower-taken c' l before after at r d e g = record {
+    step = λ u st. (
+        let q : Stands S.k ks ls l c' (top S.k ks ls s c ne u st).l = rw e (stands-left S.k ks ls s c ne u st c' d) in
+        (g.next (top S.k ks ls s c ne u st).l q, g.written (top S.k ks ls s c ne u st).l q));
+  }
 
-  abbrev pub Upper : List ℕ → List ℕ → ℕ → ℕ → Type 0
-  Upper before after at r = (u : Tree) (st : Stands S.k ks ls s c u) → Step bs before after at r (top S.k ks ls s c ne u st).r
+  pub upper-taken : (c' l : ℕ) (before after : List ℕ) (at r : ℕ) → Deeper S.k c c' → l ≡ right_at ls s → Collected S.k ks ls l c' bs before after at r → Upper S.k ks ls s c bs ne before after at r
+  upper-taken c' l before after at r d e g = record {
+    step = λ u st. (
+        let q : Stands S.k ks ls l c' (top S.k ks ls s c ne u st).r = rw e (stands-right S.k ks ls s c ne u st c' d) in
+        (g.next (top S.k ks ls s c ne u st).r q, g.written (top S.k ks ls s c ne u st).r q));
+  }
 
-  pub lower-taken : (c' l : ℕ) (before after : List ℕ) (at r : ℕ) → Deeper S.k c c' → l ≡ left_at ls s → Collected S.k ks ls l c' bs before after at r → Lower before after at r
-  lower-taken c' l before after at r d e g u st =
-      let q : Stands S.k ks ls l c' (top S.k ks ls s c ne u st).l = rw e (stands-left S.k ks ls s c ne u st c' d) in
-      (g.next (top S.k ks ls s c ne u st).l q, g.written (top S.k ks ls s c ne u st).l q)
+  pub lower-skipped : (before : List ℕ) (at : ℕ) → w.lower ≡ false → Lower S.k ks ls s c bs ne before before at at
+  lower-skipped before at e = record {
+    step = λ u st. (
+        let n = top S.k ks ls s c ne u st in
+        skipped bs before at n.l (none-boxed S.k ks ls bs (λ x. is_less (cmp st.depth x (numbers_of S.k ks s))) long
+        (λ x lx less. box-field bs x c in_bounds (rw lx h) (lower-shut (get_or bs c Free) (get_or (numbers_of S.k ks s) c (pos 0)) (get_or x c (pos 0)) (sym wt.lower ∙ e) (cut-least S.k st.depth c x (numbers_of S.k ks s) lx (long s n.slot) st.cut h less)))
+        (left_at ls s) n.l n.left (lefts S.k ks ls s c ne u st)));
+  }
 
-  pub upper-taken : (c' l : ℕ) (before after : List ℕ) (at r : ℕ) → Deeper S.k c c' → l ≡ right_at ls s → Collected S.k ks ls l c' bs before after at r → Upper before after at r
-  upper-taken c' l before after at r d e g u st =
-      let q : Stands S.k ks ls l c' (top S.k ks ls s c ne u st).r = rw e (stands-right S.k ks ls s c ne u st c' d) in
-      (g.next (top S.k ks ls s c ne u st).r q, g.written (top S.k ks ls s c ne u st).r q)
-
-  pub lower-skipped : (before : List ℕ) (at : ℕ) → w.lower ≡ false → Lower before before at at
-  lower-skipped before at e u st =
-      let n = top S.k ks ls s c ne u st in
-      skipped bs before at n.l (none-boxed S.k ks ls bs (λ x. is_less (cmp st.depth x (numbers_of S.k ks s))) long
-      (λ x lx less. box-field bs x c in_bounds (rw lx h) (lower-shut (get_or bs c Free) (get_or (numbers_of S.k ks s) c (pos 0)) (get_or x c (pos 0)) (sym wt.lower ∙ e) (cut-least S.k st.depth c x (numbers_of S.k ks s) lx (long s n.slot) st.cut h less)))
-      (left_at ls s) n.l n.left (lefts S.k ks ls s c ne u st))
-
-  pub upper-skipped : (before : List ℕ) (at : ℕ) → w.upper ≡ false → Upper before before at at
-  upper-skipped before at e u st =
-      let n = top S.k ks ls s c ne u st in
-      skipped bs before at n.r (none-boxed S.k ks ls bs (λ x. is_less (cmp st.depth (numbers_of S.k ks s) x)) long
-      (λ x lx less. box-field bs x c in_bounds (rw lx h) (upper-shut (get_or bs c Free) (get_or (numbers_of S.k ks s) c (pos 0)) (get_or x c (pos 0)) (sym wt.upper ∙ e) (cut-least S.k st.depth c (numbers_of S.k ks s) x (long s n.slot) lx st.cut h less)))
-      (right_at ls s) n.r n.right (rights S.k ks ls s c ne u st))
+  pub upper-skipped : (before : List ℕ) (at : ℕ) → w.upper ≡ false → Upper S.k ks ls s c bs ne before before at at
+  upper-skipped before at e = record {
+    step = λ u st. (
+        let n = top S.k ks ls s c ne u st in
+        skipped bs before at n.r (none-boxed S.k ks ls bs (λ x. is_less (cmp st.depth (numbers_of S.k ks s) x)) long
+        (λ x lx less. box-field bs x c in_bounds (rw lx h) (upper-shut (get_or bs c Free) (get_or (numbers_of S.k ks s) c (pos 0)) (get_or x c (pos 0)) (sym wt.upper ∙ e) (cut-least S.k st.depth c (numbers_of S.k ks s) x (long s n.slot) lx st.cut h less)))
+        (right_at ls s) n.r n.right (rights S.k ks ls s c ne u st)));
+  }
 
   -- the three together
-  pub collected-node : (b b₁ b₂ b₃ : List ℕ) (at k n r : ℕ) → Lower b b₁ at k → Noted w.here s b₁ b₂ k n → Upper b₂ b₃ n r → Collected S.k ks ls s c bs b b₃ at r
+  pub collected-node : (b b₁ b₂ b₃ : List ℕ) (at k n r : ℕ) → Lower S.k ks ls s c bs ne b b₁ at k → Noted w.here s b₁ b₂ k n → Upper S.k ks ls s c bs ne b₂ b₃ n r → Collected S.k ks ls s c bs b b₃ at r
   collected-node b b₁ b₂ b₃ at k n r lo hi up = record { next = nexts; written = writes }
     where
       here : noting (in_box bs (numbers_of S.k ks s)) s ≡ noting w.here s
@@ -93,28 +101,28 @@ module _ (S : Shape) (ks : List ℤ) (ls : List ℕ) (s c : ℕ) (bs : List Boun
       nexts : (u : Tree) → Stands S.k ks ls s c u → r ≡ at + length (slots_in bs u)
       nexts u st =
           let t = top S.k ks ls s c ne u st in
-          let x = (lo u st).0 in
+          let x = (lo.step u st).0 in
           let y = hi.next in
-          let z = (up u st).0 in
+          let z = (up.step u st).0 in
           rw (whole u st, length-append (slots_in bs t.l) (noting w.here s ++ slots_in bs t.r), length-append (noting w.here s) (slots_in bs t.r)) (omega arith)
 
       writes : (u : Tree) → Stands S.k ks ls s c u → b₃ ≡ sets b at (slots_in bs u)
       writes u st =
           let t = top S.k ks ls s c ne u st in
-          rw (whole u st, sets-append b at (slots_in bs t.l) (noting w.here s ++ slots_in bs t.r), ← (lo u st).1, ← (lo u st).0, sets-append b₁ k (noting w.here s) (slots_in bs t.r), ← hi.written, ← hi.next) (up u st).1
+          rw (whole u st, sets-append b at (slots_in bs t.l) (noting w.here s ++ slots_in bs t.r), ← (lo.step u st).1, ← (lo.step u st).0, sets-append b₁ k (noting w.here s) (slots_in bs t.r), ← hi.written, ← hi.next) (up.step u st).1
 
   -- what the calls at the node ask
   module _ (most : ℕ) (g : Standing S.k ks ls s c most) where
     its : length (items g.tree) ≡ length (items (top S.k ks ls s c ne g.tree g.stands).l) + suc (length (items (top S.k ks ls s c ne g.tree g.stands).r))
     its = many S.k ks ls s c ne g.tree g.stands
 
-    module _ (b b₁ : List ℕ) (at k : ℕ) (lo : Lower b b₁ at k) (fit : at ≤ length b) (room : most ≡ length b - at) where
+    module _ (b b₁ : List ℕ) (at k : ℕ) (lo : Lower S.k ks ls s c bs ne b b₁ at k) (fit : at ≤ length b) (room : most ≡ length b - at) where
       pub lower_long : length b₁ ≡ length b
-      lower_long = ap length (lo g.tree g.stands).1 ∙ length-sets b at (slots_in bs (top S.k ks ls s c ne g.tree g.stands).l)
+      lower_long = ap length (lo.step g.tree g.stands).1 ∙ length-sets b at (slots_in bs (top S.k ks ls s c ne g.tree g.stands).l)
 
       pub note-fits : k < length b₁
       note-fits =
-          let a = (lo g.tree g.stands).0 in
+          let a = (lo.step g.tree g.stands).0 in
           let f = boxed-few bs (items (top S.k ks ls s c ne g.tree g.stands).l) in
           let i = its in
           let e = g.few in
@@ -136,7 +144,7 @@ module _ (S : Shape) (ks : List ℤ) (ls : List ℕ) (s c : ℕ) (bs : List Boun
           tree = (top S.k ks ls s c ne g.tree g.stands).r;
           stands = rw q (stands-right S.k ks ls s c ne g.tree g.stands c' d);
           few =
-              let a = (lo g.tree g.stands).0 in
+              let a = (lo.step g.tree g.stands).0 in
               let f = boxed-few bs (items (top S.k ks ls s c ne g.tree g.stands).l) in
               let i = its in
               let e = g.few in

@@ -1,7 +1,7 @@
 -- The search for the nearest, a tree at a time: what may be passed over, and that the model's nearest is what it finds.
 use mathlib.Core.Path.{◌≡◌, refl, ap}
 use mathlib.Core.Logic.{inl, inr, ⊎_elim}
-use mathlib.Core.Bool.{true}
+use mathlib.Core.Bool.{true, false, true≢false}
 use mathlib.Core.List.Memᴰ
 use mathlib.Core.List.{List, [], ◌∷◌, ◌++◌, append-nil, Memᴰ}
 use mathlib.Core.Option.{none, some}
@@ -27,12 +27,23 @@ use Rattle.cells.specs.Slots.{left_at, right_at, tall, numbers_of, Keyed, Room}
 use Rattle.cells.proofs.Reps.{Node}
 use Rattle.cells.proofs.Slots.{numbers-long}
 use Rattle.ask.specs.Standing.{Stands, Standing}
-use Rattle.ask.specs.Nearest.{item_of, Chosen, BestOf, Visited, Turned, Searched}
+use Rattle.std.proofs.Common.{Option, None, Some}
+use Rattle.std.specs.Option.{MatchOption}
+use Rattle.ask.specs.Nearest.{item_of, Chosen, BestOf, Pooled, Visited, Turned, Searched}
 use Rattle.ask.specs.declared.near.Best.{Best}
 use Rattle.ask.specs.declared.near.Turn.{Turn}
-use Rattle.ask.proofs.Bests.{mem-node, mem-all, mem_long, filled, chosen_more, Split, split-left, split-right}
+use Rattle.ask.proofs.Bests.{mem-node, mem-all, mem_long, best_more, chosen_more, Split, split-left, split-right}
 use Rattle.ask.proofs.Edges.{far-left, far-right}
 use Rattle.ask.proofs.Standing.{top, lefts, rights, stands-left, stands-right, items-top, none-stands, left-falls, right-falls, standing-left, standing-right}
+
+-- there is a best, and it is nearer than an edge
+abbrev pub Nearer : ℕ → Option Best → Type 0
+Nearer e None = ⊥
+Nearer e (Some x) = x.distance < e
+
+pub nearer-by : (o : Option Best) (e : ℕ) (Q : Best → Type 0) → ((x : Best) → Q x → x.distance < e) → MatchOption o (true ≡ false) Q → Nearer e o
+nearer-by None e Q f h = absurd (true≢false h)
+nearer-by (Some x) e Q f h = f x h
 
 -- a tree at slot s, taken apart as the turn t says
 record Sides (K : ℕ) (ks : List ℤ) (ls : List ℕ) (steps : List ℕ) (q : Entry) (s c' : ℕ) (t : Turn) (u : Tree) (held : List Item) : Type 0 where
@@ -43,7 +54,7 @@ record Sides (K : ℕ) (ks : List ℤ) (ls : List ℕ) (steps : List ℕ) (q : E
   split : Split (items near ++ (item_of K ks s ∷ held)) (items far) (items u ++ held)
   beyond : (j : Item) → Memᴰ j (items far) → t.edge ≤ distance steps q j.entry
 
-pub searched-nil : (S : Shape) (ks : List ℤ) (ls : List ℕ) (steps : List ℕ) (q : Entry) (s c : ℕ) (b : Best) → b.slot ≤ S.c → s ≡ 0 → Searched S ks ls steps q s c b b
+pub searched-nil : (S : Shape) (ks : List ℤ) (ls : List ℕ) (steps : List ℕ) (q : Entry) (s c : ℕ) (b : Option Best) → Pooled S.c b → s ≡ 0 → Searched S ks ls steps q s c b b
 searched-nil S ks ls steps q s c b h e = record { pooled = h; best = λ u st held x. rw (none-stands S.k ks ls s c e u st) x }
 
 -- at a slot s, with the turn t and the cut one level deeper
@@ -91,33 +102,35 @@ module _ (S : Shape) (ks : List ℤ) (ls : List ℕ) (steps : List ℕ) (q : Ent
         whole : items u ≡ items n.l ++ (item_of S.k ks s ∷ items n.r)
         whole = items-top S.k ks ls s c ne u st
 
-    module _ (b here after : Best) (v : Visited S.k ks steps q b s here) (a : Searched S ks ls steps q t.near c' here after) where
+    module _ (b : Option Best) (here : Best) (after : Option Best) (v : Visited S.k ks steps q b s here) (a : Searched S ks ls steps q t.near c' (Some here) after) where
       -- the best after the near side
-      first : (u : Tree) (held : List Item) (z : Sides S.k ks ls steps q s c' t u held) → BestOf S.k ks steps q held b → Chosen S.k ks steps q (items z.near ++ (item_of S.k ks s ∷ held)) after
-      first u held z h = filled S.k ks steps q (items z.near ++ (item_of S.k ks s ∷ held)) (item_of S.k ks s) after (Memᴰ.append_right (items z.near) (Memᴰ.head refl)) (a.best z.near z.near_stands (item_of S.k ks s ∷ held) (inr (v.chosen held h)))
+      first : (u : Tree) (held : List Item) (z : Sides S.k ks ls steps q s c' t u held) → BestOf S.k ks steps q held b → BestOf S.k ks steps q (items z.near ++ (item_of S.k ks s ∷ held)) after
+      first u held z h = a.best z.near z.near_stands (item_of S.k ks s ∷ held) (v.chosen held h)
 
       -- nearer than the edge: nothing beyond it is as good
-      pub searched-near : after.distance < t.edge → Searched S ks ls steps q s c b after
-      searched-near lt = record { pooled = a.pooled; best = λ u st held h. inr (stop u held (sides u st held) h) }
+      pub searched-near : Nearer t.edge after → Searched S ks ls steps q s c b after
+      searched-near lt = record { pooled = a.pooled; best = λ u st held h. go after refl lt u held (sides u st held) h }
         where
-          stop : (u : Tree) (held : List Item) → Sides S.k ks ls steps q s c' t u held → BestOf S.k ks steps q held b → Chosen S.k ks steps q (items u ++ held) after
-          stop u held z h =
-              let x = first u held z h in
-              let e : after.distance ≡ distance steps q (numbers_of S.k ks after.slot) = x.away in
-              chosen_more S.k ks steps q (items z.near ++ (item_of S.k ks s ∷ held)) (items u ++ held) after x z.split.first
+          stop : (x : Best) → after ≡ Some x → x.distance < t.edge → (u : Tree) (held : List Item) → Sides S.k ks ls steps q s c' t u held → BestOf S.k ks steps q held b → Chosen S.k ks steps q (items u ++ held) x
+          stop x e lt u held z h =
+              let y : Chosen S.k ks steps q (items z.near ++ (item_of S.k ks s ∷ held)) x = rw e at (first u held z h) in
+              let w : x.distance ≡ distance steps q (numbers_of S.k ks x.slot) = y.away in
+              chosen_more S.k ks steps q (items z.near ++ (item_of S.k ks s ∷ held)) (items u ++ held) x y z.split.first
               (λ j k. ⊎_elim (λ y. inl y) (λ y. inr (let o : t.edge ≤ distance steps q j.entry = z.beyond j y in record { near = omega arith; tie = λ p. absurd (omega arith) })) (z.split.cases j k))
 
-      pub searched-both : (r : Best) → Searched S ks ls steps q t.far c' after r → Searched S ks ls steps q s c b r
-      searched-both r f = record { pooled = f.pooled; best = λ u st held h. inr (go u held (sides u st held) h) }
+          go : (o : Option Best) → after ≡ o → Nearer t.edge o → (u : Tree) (held : List Item) → Sides S.k ks ls steps q s c' t u held → BestOf S.k ks steps q held b → BestOf S.k ks steps q (items u ++ held) after
+          go None e l u held z h = absurd l
+          go (Some x) e l u held z h = rw e (stop x e l u held z h)
+
+      pub searched-both : (r : Option Best) → Searched S ks ls steps q t.far c' after r → Searched S ks ls steps q s c b r
+      searched-both r f = record { pooled = f.pooled; best = λ u st held h. go u held (sides u st held) h }
         where
-          go : (u : Tree) (held : List Item) → Sides S.k ks ls steps q s c' t u held → BestOf S.k ks steps q held b → Chosen S.k ks steps q (items u ++ held) r
+          go : (u : Tree) (held : List Item) → Sides S.k ks ls steps q s c' t u held → BestOf S.k ks steps q held b → BestOf S.k ks steps q (items u ++ held) r
           go u held z h =
               let old = items z.near ++ (item_of S.k ks s ∷ held) in
-              let x = f.best z.far z.far_stands old (inr (first u held z h)) in
-              let y : Chosen S.k ks steps q (items z.far ++ old) r = filled S.k ks steps q (items z.far ++ old) (item_of S.k ks s) r (Memᴰ.append_right (items z.far) (Memᴰ.append_right (items z.near) (Memᴰ.head refl))) x in
-              chosen_more S.k ks steps q (items z.far ++ old) (items u ++ held) r y
+              best_more S.k ks steps q (items z.far ++ old) (items u ++ held) (item_of S.k ks s) r (Memᴰ.append_right (items z.far) (Memᴰ.append_right (items z.near) (Memᴰ.head refl))) (f.best z.far z.far_stands old (first u held z h))
               (λ j k. ⊎_elim (z.split.second j) (z.split.first j) (Memᴰ.append_cases (items z.far) k))
-              (λ j k. inl (⊎_elim (λ o. Memᴰ.append_right (items z.far) o) (λ o. Memᴰ.append_left old o) (z.split.cases j k)))
+              (λ j k. ⊎_elim (λ o. Memᴰ.append_right (items z.far) o) (λ o. Memᴰ.append_left old o) (z.split.cases j k))
 
 -- ---- the model's nearest
 
@@ -136,35 +149,28 @@ one-best steps q a b x y =
     let n = y.near in
     toward-by left 0 a b (λ l. absurd (y.tie (omega arith) l)) (λ e. e) (λ l. absurd (x.tie (omega arith) l))
 
-module _ (K : ℕ) (ks : List ℤ) (steps : List ℕ) (q : Entry) (u : Tree) (b : Best) (h : BestOf K ks steps q (items u) b) where
-  pub nearest-none : b.slot ≡ 0 → nearest steps q (listing u) ≡ none
-  unfolding nearest listing
-  nearest-none z = ⊎_elim (λ n. rw n.empty refl) (λ x. absurd (x.some z)) h
+pub nearest-none : (K : ℕ) (ks : List ℤ) (steps : List ℕ) (q : Entry) (u : Tree) → BestOf K ks steps q (items u) None → nearest steps q (listing u) ≡ none
+unfolding nearest listing
+nearest-none K ks steps q u h = rw h refl
 
-  module _ (ne : ¬ (b.slot ≡ 0)) where
-    chosen : Chosen K ks steps q (items u) b
-    chosen = ⊎_elim (λ n. absurd (ne n.none)) (λ x. x) h
+module _ (K : ℕ) (ks : List ℤ) (steps : List ℕ) (q : Entry) (u : Tree) (b : Best) (chosen : Chosen K ks steps q (items u) b) where
+  there : Has (item_of K ks b.slot) u
+  there = mem-has (item_of K ks b.slot) u chosen.one
 
-    there : Has (item_of K ks b.slot) u
-    there = mem-has (item_of K ks b.slot) u chosen.one
+  pub nearest-slot : ordered 0 u ≡ true → slot_of 0 (numbers_of K ks b.slot) u ≡ b.slot
+  nearest-slot o = slot_of-found 0 (item_of K ks b.slot) u (ordered-true 0 u o) there
 
-    pub nearest-away : b.distance ≡ distance steps q (numbers_of K ks b.slot)
-    nearest-away = chosen.away
+  pub nearest-some : nearest steps q (listing u) ≡ some (numbers_of K ks b.slot)
+  nearest-some = nearest-by (λ o. o ≡ some e) steps q (listing u)
+      (λ z. absurd (has_all (Unlike e) (item_of K ks b.slot) u there (all-listing (Unlike e) u (rw z tt)) refl))
+      (λ x k. ap some (one-best steps q x e (has_all (AsGood steps q x) (item_of K ks b.slot) u there (all-listing (AsGood steps q x) u k.1)) (every-has (AsGood steps q e) x (listing u) good (true-has x (listing u) k.0))))
+    where
+      e : Entry
+      e = numbers_of K ks b.slot
 
-    pub nearest-slot : ordered 0 u ≡ true → slot_of 0 (numbers_of K ks b.slot) u ≡ b.slot
-    nearest-slot o = slot_of-found 0 (item_of K ks b.slot) u (ordered-true 0 u o) there
-
-    pub nearest-some : nearest steps q (listing u) ≡ some (numbers_of K ks b.slot)
-    nearest-some = nearest-by (λ o. o ≡ some e) steps q (listing u)
-        (λ z. absurd (has_all (Unlike e) (item_of K ks b.slot) u there (all-listing (Unlike e) u (rw z tt)) refl))
-        (λ x k. ap some (one-best steps q x e (has_all (AsGood steps q x) (item_of K ks b.slot) u there (all-listing (AsGood steps q x) u k.1)) (every-has (AsGood steps q e) x (listing u) good (true-has x (listing u) k.0))))
-      where
-        e : Entry
-        e = numbers_of K ks b.slot
-
-        good : Every (AsGood steps q (numbers_of K ks b.slot)) (listing u)
-        good = listing-all (AsGood steps q (numbers_of K ks b.slot)) u (items-all (AsGood steps q (numbers_of K ks b.slot)) u (mem-every (AsGood steps q (numbers_of K ks b.slot)) (items u) chosen.good))
+      good : Every (AsGood steps q (numbers_of K ks b.slot)) (listing u)
+      good = listing-all (AsGood steps q (numbers_of K ks b.slot)) u (items-all (AsGood steps q (numbers_of K ks b.slot)) u (mem-every (AsGood steps q (numbers_of K ks b.slot)) (items u) chosen.good))
 
 -- a search that begins with none finds the best of the whole tree
-pub searched-whole : (S : Shape) (ks : List ℤ) (ls : List ℕ) (steps : List ℕ) (q : Entry) (s c : ℕ) (b r : Best) → b.slot ≡ 0 → Searched S ks ls steps q s c b r → (u : Tree) → Stands S.k ks ls s c u → BestOf S.k ks steps q (items u) r
-searched-whole S ks ls steps q s c b r z f u st = rw append-nil at (f.best u st [] (inl (record { none = z; empty = refl })))
+pub searched-whole : (S : Shape) (ks : List ℤ) (ls : List ℕ) (steps : List ℕ) (q : Entry) (s c : ℕ) (r : Option Best) → Searched S ks ls steps q s c None r → (u : Tree) → Stands S.k ks ls s c u → BestOf S.k ks steps q (items u) r
+searched-whole S ks ls steps q s c r f u st = rw append-nil at (f.best u st [] refl)

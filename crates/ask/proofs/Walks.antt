@@ -19,8 +19,8 @@ use Rattle.model.proofs.Orders.{flip, order-eq, order_flip}
 use Rattle.cells.specs.Orders.{Deeper}
 use Rattle.cells.specs.Orders as orders
 use Rattle.cells.specs.Slots.{left_at, right_at, numbers_of, Slot, Keyed, Room, EntryCompared}
-use Rattle.cells.specs.declared.order.Order.{Order}
-use Rattle.cells.specs.declared.order.Order.TheVariants.{Less, Equal, Greater}
+use Rattle.std.specs.declared.cmp.Ordering.{Ordering as Order}
+use Rattle.std.specs.declared.cmp.Ordering.TheVariants.{Less, Equal, Greater}
 use Rattle.cells.proofs.Orders.{cut-decides}
 use Rattle.cells.proofs.Slots.{numbers-long}
 use Rattle.cells.proofs.Reps.{link-cells}
@@ -33,9 +33,6 @@ slot-in S nk nl s r ne h = record { some = omega (arith, ne); fits = let e = r.l
 
 pub keyed-in : (S : Shape) (nk nl s : ℕ) → Room S nk nl → ¬ (s ≡ 0) → s ≤ S.c → Keyed S.k nk s
 keyed-in S nk nl s r ne h = record { some = omega (arith, ne); fits = let e = r.wide in let f = mul-le-mul_left S.k h in omega arith }
-
-pub small_slot : (S : Shape) (nk nl s : ℕ) → Room S nk nl → s ≤ S.c → s ≤ 4096
-small_slot S nk nl s r h = let g = r.c_high in omega arith
 
 abbrev pub by_order : Order → Walk → Walk → Walk → Walk
 by_order Less a b c = a

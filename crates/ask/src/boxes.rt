@@ -7,24 +7,24 @@ ghost use Rattle.ask.specs.Boxes.{is_lower_open, is_upper_open, Weighed, Noted, 
 use model::{Bound, Shape};
 
 // Whether a bound can hold a number that is not above x.
+#[tactic(auto, using(gauge::proofs::Boxes::le_back), unfolding(crate::specs::Boxes::is_lower_open))]
 pub fn lower_open(b: Bound, x: i64) -> bool
     ensures { result ≡ is_lower_open b x }
 {
     match b {
-        Bound::Free => true,
+        Bound::Free | Bound::AtMost(_) => true,
         Bound::AtLeast(lo) => lo <= x,
-        Bound::AtMost(_) => true,
         Bound::Between(lo, _) => lo <= x,
     }
 }
 
-// Whether a bound can hold a number that is not below x.
+// Whether a bound can hold a number that is not below x; the mirror image, and each is plainer by itself than one with a side to tell.
+#[tactic(auto, using(gauge::proofs::Boxes::le_back), unfolding(crate::specs::Boxes::is_upper_open))]
 pub fn upper_open(b: Bound, x: i64) -> bool
     ensures { result ≡ is_upper_open b x }
 {
     match b {
-        Bound::Free => true,
-        Bound::AtLeast(_) => true,
+        Bound::Free | Bound::AtLeast(_) => true,
         Bound::AtMost(hi) => x <= hi,
         Bound::Between(_, hi) => x <= hi,
     }
@@ -43,12 +43,11 @@ pub fn weigh(part: &[i64], cut: usize, bounds: [Bound; 4]) -> Sides
     requires { (cut < length part.now) × (length part.now ≤ 4) }
     ensures { Weighed bounds part.now cut result }
 {
-    let x = part[cut];
-    let b = bounds[cut];
-    let lower = lower_open(b, x);
-    let upper = upper_open(b, x);
-    let here = gauge::bounds::inside(bounds, part);
-    Sides { lower, here, upper }
+    Sides {
+        lower: lower_open(bounds[cut], part[cut]),
+        here: gauge::bounds::inside(bounds, part),
+        upper: upper_open(bounds[cut], part[cut]),
+    }
 }
 
 // The entry in a slot weighed.
@@ -57,22 +56,19 @@ pub fn weigh_slot(keys: &[i64], shape: Shape, s: usize, cut: usize, bounds: [Bou
     requires keyed { Keyed shape.k (length keys.now) s }
     ensures { Weighed bounds (numbers_of shape.k keys.now s) cut result }
 {
-    let k = shape.k;
-    let i = cells::slot::address(shape, s);
-    let z = i + k;
-    weigh(&keys[i..z], cut, bounds)
+    weigh(cells::slot::numbers(keys, shape, s), cut, bounds)
 }
 
-// Notes a slot at a place where it is one of the box; returns the place behind.
+// Notes a slot at a place where it is one of the box; returns the place behind. The flag is what a box says of an entry: no Option of a slot is at hand.
 pub fn note(wanted: bool, s: usize, slots: &mut [usize], at: usize) -> usize
     requires { at < length slots.old }
     ensures { Noted wanted s slots.old slots.new at result }
 {
-    if wanted {
-        slots[at] = s;
-        return at + 1;
+    if !wanted {
+        return at;
     }
-    at
+    slots[at] = s;
+    at + 1
 }
 
 // Notes the slots of the box in the tree at s from `at` on, in the tree's order; returns the place behind them.

@@ -1,13 +1,13 @@
 // The nearest entry of a tree in lent memory.
-ghost use Rattle.std.specs.Prelude.{ℕ, ◌*◌, ◌≤◌, ◌<◌, length, take, get_or};
+ghost use Rattle.std.specs.Prelude.{ℕ, ◌≤◌, ◌<◌, length, take, get_or};
 ghost use Rattle.cells.specs.Slots.{Keyed, Room, Slot};
 ghost use Rattle.ask.specs.Standing.{Standing};
-ghost use Rattle.ask.specs.Nearest.{Bettered, Visited, Turned, Searched};
+ghost use Rattle.ask.specs.Nearest.{Held, Pooled, Bettered, Visited, Turned, Searched};
 
-use cells::order::Order;
 use model::{Entry, Shape};
+use std::cmp::Ordering;
 
-// The best so far: its slot, 0 where there is none yet, and its distance.
+// The best so far: its slot and its distance.
 #[derive(Clone, Copy)]
 pub struct Best {
     pub slot: usize,
@@ -22,51 +22,46 @@ pub struct Turn {
     pub edge: u64,
 }
 
-// The nearer of the best so far and slot s at distance d; at a tie the first in listing order.
-pub fn better(keys: &[i64], shape: Shape, best: Best, s: usize, d: u64) -> Best
-    requires le_k { (1 ≤ shape.k) × ((shape.k ≤ 4) × ((s ≤ 4096) × (best.slot ≤ 4096))) }
-    requires keyed { Keyed shape.k (length keys.now) s × (shape.k * best.slot ≤ length keys.now) }
+// The nearer of the best so far, where there is one, and slot s at distance d; at a tie the first in listing order.
+pub fn better(keys: &[i64], shape: Shape, best: Option<Best>, s: usize, d: u64) -> Best
+    requires le_k { (1 ≤ shape.k) × ((shape.k ≤ 4) × (s ≤ 4096)) }
+    requires keyed { Keyed shape.k (length keys.now) s × Held shape.k (length keys.now) best }
     ensures { Bettered shape.k keys.now best s d result }
 {
-    let at = best.slot;
-    let held = best.distance;
-    if at == 0 {
-        return Best {
-            slot: s,
-            distance: d,
-        };
+    let here = Best {
+        slot: s,
+        distance: d,
+    };
+    let Some(b) = best else {
+        return here;
+    };
+    if b.distance < d {
+        return b;
     }
-    if d < held {
-        return Best {
-            slot: s,
-            distance: d,
-        };
+    if d < b.distance {
+        return here;
     }
-    if held < d {
-        return best;
-    }
-    let o = cells::slot::compare_slots(keys, shape, at, s, 0);
-    match o {
-        Order::Greater => Best {
-            slot: s,
-            distance: d,
-        },
-        Order::Less => best,
-        Order::Equal => best,
+    match cells::slot::compare_slots(keys, shape, b.slot, s, 0) {
+        Ordering::Greater => here,
+        Ordering::Less | Ordering::Equal => b,
     }
 }
 
 // The best so far once the entry in slot s is seen.
-pub fn visit(shape: Shape, s: usize, q: Entry, steps: [u64; 4], keys: &[i64], best: Best) -> Best
-    requires le_k { (1 ≤ shape.k) × ((shape.k ≤ 4) × ((s ≤ 4096) × (best.slot ≤ 4096))) }
-    requires keyed { Keyed shape.k (length keys.now) s × (shape.k * best.slot ≤ length keys.now) }
+pub fn visit(
+    shape: Shape,
+    s: usize,
+    q: Entry,
+    steps: [u64; 4],
+    keys: &[i64],
+    best: Option<Best>,
+) -> Best
+    requires le_k { (1 ≤ shape.k) × ((shape.k ≤ 4) × (s ≤ 4096)) }
+    requires keyed { Keyed shape.k (length keys.now) s × Held shape.k (length keys.now) best }
     requires by_index { (i : ℕ) → i < shape.k → 0 < get_or steps i 0 }
     ensures { Visited shape.k keys.now steps (take shape.k q.f) best s result }
 {
-    let k = shape.k;
-    let i = cells::slot::address(shape, s);
-    let z = i + k;
-    let d = gauge::distance::distance_of(steps, q, &keys[i..z]);
+    let d = gauge::distance::distance_of(steps, q, cells::slot::numbers(keys, shape, s));
     better(keys, shape, best, s, d)
 }
 
@@ -85,24 +80,23 @@ pub fn turn_at(
     requires by_index { (i : ℕ) → i < shape.k → 0 < get_or steps i 0 }
     ensures { Turned shape.k keys.now links.now steps (take shape.k q.f) s cut result }
 {
-    let f = q.f;
-    let i = cells::slot::address(shape, s);
-    let x = keys[i + cut];
-    let y = f[cut];
+    let x = cells::slot::number_at(keys, shape, s, cut);
+    let y = q.f[cut];
     let edge = gauge::distance::field_distance(steps[cut], y, x);
     let left = cells::slot::left_of(links, s);
     let right = cells::slot::right_of(links, s);
     if y < x {
-        return Turn {
+        Turn {
             near: left,
             far: right,
             edge,
-        };
-    }
-    Turn {
-        near: right,
-        far: left,
-        edge,
+        }
+    } else {
+        Turn {
+            near: right,
+            far: left,
+            edge,
+        }
     }
 }
 
@@ -115,10 +109,10 @@ pub fn nearest_in(
     steps: [u64; 4],
     keys: &[i64],
     links: &[usize],
-    best: Best,
-) -> Best
+    best: Option<Best>,
+) -> Option<Best>
     requires room { Room shape (length keys.now) (length links.now) }
-    requires cut_lt_k { (cut < shape.k) × (best.slot ≤ shape.c) }
+    requires cut_lt_k { (cut < shape.k) × Pooled shape.c best }
     requires by_index { (i : ℕ) → i < shape.k → 0 < get_or steps i 0 }
     requires standing { Standing shape.k keys.now links.now s cut shape.c }
     ensures { Searched shape keys.now links.now steps (take shape.k q.f) s cut best result }
@@ -129,8 +123,8 @@ pub fn nearest_in(
     let here = visit(shape, s, q, steps, keys, best);
     let turn = turn_at(shape, s, cut, q, steps, keys, links);
     let next = cells::order::next_cut(shape, cut);
-    let after = nearest_in(shape, turn.near, next, q, steps, keys, links, here);
-    if after.distance < turn.edge {
+    let after = nearest_in(shape, turn.near, next, q, steps, keys, links, Some(here));
+    if after.is_some_and(|b| b.distance < turn.edge) {
         after
     } else {
         nearest_in(shape, turn.far, next, q, steps, keys, links, after)

@@ -20,25 +20,24 @@ use Rattle.model.proofs.Gates.{checked-shut, checked-open}
 use Rattle.ask.specs.Standing.{Stands}
 use Rattle.ask.specs.Boxes.{slots_in}
 use Rattle.ask.proofs.Listed.{box-count}
-use Rattle.reply.specs.Gates.{told, pooled}
-use Rattle.reply.specs.declared.gate.Gate.{Gate}
-use Rattle.reply.specs.declared.gate.Gate.TheVariants.{Open, Shut}
+use Rattle.std.specs.Prelude.{Ok, Err}
+use Rattle.reply.specs.Gates.{Gate, told, pooled}
 use Rattle.reply.proofs.Pools.{no-scratch-rows, pool-refuses, all-open, pool-stands, pool-distinct}
 
 module _ (h : Head) (ks : List ℤ) (ls : List ℕ) (g : Gate) (is : g ≡ told (gate (pooled h ks ls h.c))) where
   -- rows 1 to 4 of a call that is lent no scratch
-  pub reads-shut : (r : Refusal) → g ≡ Shut r → gate (rows4 h ks ls) ≡ some r
+  pub reads-shut : (r : Refusal) → g ≡ Err r → gate (rows4 h ks ls) ≡ some r
   reads-shut r e = ap gate (sym (no-scratch-rows h ks ls)) ∙ pool-refuses h ks ls h.c g is r e
 
-  pub reads-open : g ≡ Open → gate (rows4 h ks ls) ≡ none
+  pub reads-open : g ≡ Ok tt → gate (rows4 h ks ls) ≡ none
   reads-open o = ap gate (sym (no-scratch-rows h ks ls)) ∙ all-open h ks ls h.c g is o
 
   module _ (bs : List Bound) where
-    pub count-shut : (r : Refusal) → g ≡ Shut r → (count h ks ls bs).answer ≡ refused h 0 r
+    pub count-shut : (r : Refusal) → g ≡ Err r → (count h ks ls bs).answer ≡ refused h 0 r
     unfolding count
     count-shut r e = ap (λ a. a.answer) (checked-shut (rows4 h ks ls) (λ q. reading (refused h 0 q) ks ls) (reading (counted h (length (keep bs (listing (book_of h ks ls).tree)))) ks ls) r (reads-shut r e))
 
-    pub count-open : g ≡ Open → (n : ℕ) (a : Answer) → ((u : Tree) → Stands h.k ks ls h.root 0 u → n ≡ length (slots_in bs u)) → a ≡ counted h n → a ≡ (count h ks ls bs).answer
+    pub count-open : g ≡ Ok tt → (n : ℕ) (a : Answer) → ((u : Tree) → Stands h.k ks ls h.root 0 u → n ≡ length (slots_in bs u)) → a ≡ counted h n → a ≡ (count h ks ls bs).answer
     unfolding count
     count-open o n a w e =
         let u = (book_of h ks ls).tree in

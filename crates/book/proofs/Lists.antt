@@ -28,11 +28,10 @@ use Rattle.ask.proofs.Listed.{box-listing, box-count}
 use Rattle.rank.specs.Ranking.{items_at}
 use Rattle.rank.proofs.Merging.{rank-items, ranked-slots}
 use Rattle.build.proofs.Shapes.{items-held}
-use Rattle.reply.specs.Gates.{told, pooled}
-use Rattle.sheet.specs.Listing.{numbers_in, ranked_in, FilledWith}
-use Rattle.reply.specs.declared.gate.Gate.{Gate}
-use Rattle.reply.specs.declared.gate.Gate.TheVariants.{Open, Shut}
-use Rattle.sheet.specs.declared.listing.Filled.{Filled}
+use Rattle.std.specs.Prelude.{Result, Ok, Err}
+use Rattle.reply.specs.Gates.{Gate, told, pooled}
+use Rattle.sheet.specs.Listing.{counted as count_of, numbers_in, ranked_in, FilledWith}
+use Rattle.sheet.specs.declared.listing.TooMany.{TooMany}
 use Rattle.book.proofs.Counts.{reads-shut, reads-open}
 use Rattle.reply.proofs.Pools.{behind-shut, behind-open, pool-stands, pool-rep, pool-distinct}
 
@@ -84,31 +83,36 @@ module _ (h : Head) (ks : List ℤ) (ls : List ℕ) (g : Gate) (is : g ≡ told 
         let z = checked-shut (rows4 h ks ls ++ last) no yes r e in
         (q ∙ sym (ap (λ (x : After). x.answer) z), sym (ap (λ (x : After). x.room) z))
 
-    pub list-shut : (r : Refusal) → g ≡ Shut r → (a : Answer) → a ≡ refused h 0 r → (a ≡ (list h ks ls bs room).answer) × (room ≡ (list h ks ls bs room).room)
+    pub list-shut : (r : Refusal) → g ≡ Err r → (a : Answer) → a ≡ refused h 0 r → (a ≡ (list h ks ls bs room).answer) × (room ≡ (list h ks ls bs room).room)
     list-shut r e = refuses r (behind-shut (rows4 h ks ls) last r (reads-shut h ks ls g is r e))
 
-    module _ (o : g ≡ Open) (room' : List ℤ) (f : Filled) (w : FilledWith h.k ks ls h.root bs room room' f) where
-      many : f.count ≡ length es
+    module _ (o : g ≡ Ok tt) (room' : List ℤ) (f : Result ℕ TooMany) (w : FilledWith h.k ks ls h.root bs room room' f) where
+      many : count_of f ≡ length es
       many = w.many u (pool-stands h ks ls h.c g is o) ∙ sym (box-count bs u (pool-distinct h ks ls h.c g is o))
 
-      pub list-short : f.fits ≡ false → (a : Answer) → a ≡ refused h 0 NoRoom → (a ≡ (list h ks ls bs room).answer) × (room' ≡ (list h ks ls bs room).room)
-      list-short e a q =
-          let t : ltb (length room) (h.k * length es) ≡ true = lt-ltb (length room) (h.k * length es) (rw many at (w.short e)) in
+      pub list-short : (m : TooMany) → f ≡ Err m → (a : Answer) → a ≡ refused h 0 NoRoom → (a ≡ (list h ks ls bs room).answer) × (room' ≡ (list h ks ls bs room).room)
+      list-short m e a q =
+          let n : m.count ≡ length es = sym (ap count_of e) ∙ many in
+          let t : ltb (length room) (h.k * length es) ≡ true = lt-ltb (length room) (h.k * length es) (rw n at (w.short m e)) in
           let z = refuses NoRoom (behind-open (rows4 h ks ls) last (reads-open h ks ls g is o) ∙ gate-on (ltb (length room) (h.k * length es)) NoRoom [] t) a q in
-          (z.0, w.kept e ∙ z.1)
+          (z.0, w.kept m e ∙ z.1)
 
-      written : f.fits ≡ true → room' ≡ flat es ++ drop (h.k * length es) room
-      written e =
-          let d = pool-distinct h ks ls h.c g is o in
-          let b = boxed-held h.k ks bs (items u) (items-held h.k ks ls h.root u (pool-rep h ks ls h.c g is o)) in
-          let p : numbers_in h.k ks (ranked_in h.k ks bs u) ≡ flat es = ranked-flat h.k ks bs u b ∙ ap flat (sym (box-listing bs u d)) in
-          w.written e u (pool-stands h ks ls h.c g is o) ∙ ap₂ (λ (x : List ℤ) (n : ℕ). x ++ drop (h.k * n) room) p many
+      module _ (n : ℕ) (e : f ≡ Ok n) where
+        all : n ≡ length es
+        all = sym (ap count_of e) ∙ many
 
-      pub list_done : f.fits ≡ true → (a : Answer) → a ≡ counted h f.count → (a ≡ (list h ks ls bs room).answer) × (room' ≡ (list h ks ls bs room).room)
-      unfolding list
-      list_done e a q =
-          let no : Refusal → After = λ r. record { answer = refused h 0 r; keys = ks; links = ls; scratch = []; room = room; page = [] } in
-          let yes : After = record { answer = counted h (length es); keys = ks; links = ls; scratch = []; room = flat es ++ drop (h.k * length es) room; page = [] } in
-          let t : ltb (length room) (h.k * length es) ≡ false = le-ltb (length room) (h.k * length es) (rw many at (w.long e)) in
-          let z = checked-open (rows4 h ks ls ++ last) no yes (behind-open (rows4 h ks ls) last (reads-open h ks ls g is o) ∙ gate-off (ltb (length room) (h.k * length es)) NoRoom [] t) in
-          (q ∙ ap (counted h) many ∙ sym (ap (λ (x : After). x.answer) z), written e ∙ sym (ap (λ (x : After). x.room) z))
+        written : room' ≡ flat es ++ drop (h.k * length es) room
+        written =
+            let d = pool-distinct h ks ls h.c g is o in
+            let b = boxed-held h.k ks bs (items u) (items-held h.k ks ls h.root u (pool-rep h ks ls h.c g is o)) in
+            let p : numbers_in h.k ks (ranked_in h.k ks bs u) ≡ flat es = ranked-flat h.k ks bs u b ∙ ap flat (sym (box-listing bs u d)) in
+            w.written n e u (pool-stands h ks ls h.c g is o) ∙ ap₂ (λ (x : List ℤ) (j : ℕ). x ++ drop (h.k * j) room) p all
+
+        pub list_done : (a : Answer) → a ≡ counted h n → (a ≡ (list h ks ls bs room).answer) × (room' ≡ (list h ks ls bs room).room)
+        unfolding list
+        list_done a q =
+            let no : Refusal → After = λ r. record { answer = refused h 0 r; keys = ks; links = ls; scratch = []; room = room; page = [] } in
+            let yes : After = record { answer = counted h (length es); keys = ks; links = ls; scratch = []; room = flat es ++ drop (h.k * length es) room; page = [] } in
+            let t : ltb (length room) (h.k * length es) ≡ false = le-ltb (length room) (h.k * length es) (rw all at (w.long n e)) in
+            let z = checked-open (rows4 h ks ls ++ last) no yes (behind-open (rows4 h ks ls) last (reads-open h ks ls g is o) ∙ gate-off (ltb (length room) (h.k * length es)) NoRoom [] t) in
+            (q ∙ ap (counted h) all ∙ sym (ap (λ (x : After). x.answer) z), written ∙ sym (ap (λ (x : After). x.room) z))

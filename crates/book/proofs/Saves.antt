@@ -1,6 +1,5 @@
 -- Save as it is called: its refusals, and what the room then holds.
 use mathlib.Core.Path.{◌≡◌, sym, ap, ◌∙◌}
-use mathlib.Core.Bool.{true, false}
 use mathlib.Core.Option.{some}
 use mathlib.Core.List.{List, [], ◌∷◌, ◌++◌}
 use Prim.Native.Nat.{ℕ}
@@ -20,11 +19,11 @@ use Rattle.model.specs.declared.Refusal.{Refusal}
 use Rattle.model.specs.declared.Refusal.TheVariants.{Room}
 use Rattle.model.specs.declared.Answer.{Answer}
 use Rattle.model.proofs.Gates.{gate-on, gate-off, checked-shut, checked-open}
-use Rattle.reply.specs.Gates.{told, pooled}
+use Rattle.std.specs.Prelude.{Ok, Err}
+use Rattle.reply.specs.Gates.{Gate, told, pooled}
 use Rattle.sheet.specs.Saving.{Measured, PrintedWith}
-use Rattle.reply.specs.declared.gate.Gate.{Gate}
-use Rattle.reply.specs.declared.gate.Gate.TheVariants.{Open, Shut}
-use Rattle.sheet.specs.declared.saving.Printed.{Printed}
+use Rattle.std.specs.declared.option.Option.{Option}
+use Rattle.std.specs.declared.option.Option.TheVariants.{Some, None}
 use Rattle.book.proofs.Counts.{reads-shut, reads-open}
 use Rattle.reply.proofs.Pools.{behind-shut, behind-open, pool-stands}
 
@@ -48,20 +47,20 @@ module _ (h : Head) (ks : List ℤ) (ls : List ℕ) (g : Gate) (is : g ≡ told 
   unfolding save
   refuses r e a q = let z = checked-shut (rows4 h ks ls ++ last) no yes r e in (q ∙ sym (ap (λ (x : After). x.answer) z), sym (ap (λ (x : After). x.page) z))
 
-  pub save-shut : (r : Refusal) → g ≡ Shut r → (a : Answer) → a ≡ refused h 0 r → (a ≡ (save h ks ls room).answer) × (room ≡ (save h ks ls room).page)
+  pub save-shut : (r : Refusal) → g ≡ Err r → (a : Answer) → a ≡ refused h 0 r → (a ≡ (save h ks ls room).answer) × (room ≡ (save h ks ls room).page)
   save-shut r e = refuses r (behind-shut (rows4 h ks ls) last r (reads-shut h ks ls g is r e))
 
-  module _ (o : g ≡ Open) (room' : List ℕ) (p : Printed) (w : PrintedWith h.k ks ls h.root room room' p) where
+  module _ (o : g ≡ Ok tt) (room' : List ℕ) (p : Option ℕ) (w : PrintedWith h.k ks ls h.root room room' p) where
     measured : Measured text (length room) p
     measured = w.measured u (pool-stands h ks ls h.c g is o)
 
-    pub save-short : p.fits ≡ false → (a : Answer) → a ≡ refused h 0 Room → (a ≡ (save h ks ls room).answer) × (room' ≡ (save h ks ls room).page)
+    pub save-short : p ≡ None → (a : Answer) → a ≡ refused h 0 Room → (a ≡ (save h ks ls room).answer) × (room' ≡ (save h ks ls room).page)
     save-short e a q =
         let z = refuses Room (behind-open (rows4 h ks ls) last (reads-open h ks ls g is o) ∙ gate-on (ltb (length room) (length text)) Room [] (lt-ltb (length room) (length text) (measured.short e))) a q in
         (z.0, w.kept e ∙ z.1)
 
-    pub save-done : p.fits ≡ true → (a : Answer) → a ≡ wrote h p.bytes → (a ≡ (save h ks ls room).answer) × (room' ≡ (save h ks ls room).page)
+    pub save-done : (n : ℕ) → p ≡ Some n → (a : Answer) → a ≡ wrote h n → (a ≡ (save h ks ls room).answer) × (room' ≡ (save h ks ls room).page)
     unfolding save
-    save-done e a q =
-        let z = checked-open (rows4 h ks ls ++ last) no yes (behind-open (rows4 h ks ls) last (reads-open h ks ls g is o) ∙ gate-off (ltb (length room) (length text)) Room [] (le-ltb (length room) (length text) (measured.long e))) in
-        (q ∙ ap (wrote h) (measured.bytes e) ∙ sym (ap (λ (x : After). x.answer) z), w.written e u (pool-stands h ks ls h.c g is o) ∙ sym (ap (λ (x : After). x.page) z))
+    save-done n e a q =
+        let z = checked-open (rows4 h ks ls ++ last) no yes (behind-open (rows4 h ks ls) last (reads-open h ks ls g is o) ∙ gate-off (ltb (length room) (length text)) Room [] (le-ltb (length room) (length text) (measured.long n e))) in
+        (q ∙ ap (wrote h) (measured.bytes n e) ∙ sym (ap (λ (x : After). x.answer) z), w.written n e u (pool-stands h ks ls h.c g is o) ∙ sym (ap (λ (x : After). x.page) z))

@@ -9,6 +9,7 @@ use Rattle.model.specs.Book.{fresh, links, keys, head_of}
 use Rattle.model.specs.Answer.{gate, plain, refused}
 use Rattle.model.specs.Gate.{After, reading, rows3, sized}
 use Rattle.model.specs.Calls.{start, no_head}
+use Rattle.model.specs.declared.Head.{Head}
 use Rattle.model.specs.declared.Refusal.{Refusal}
 use Rattle.model.specs.declared.Outcome.TheVariants.{Done}
 use Rattle.model.specs.declared.Answer.{Answer}
@@ -18,6 +19,10 @@ use Rattle.reply.proofs.Gates.{no-scratch}
 use Rattle.cells.specs.Slots.{Room}
 use Rattle.desk.specs.Fresh.{Chained}
 use Rattle.desk.proofs.Chains.{fresh-image}
+
+-- a head that is all 0
+pub head-of_zeros : (h : Head) → (h.k ≡ 0) × ((h.c ≡ 0) × ((h.root ≡ 0) × ((h.free ≡ 0) × (h.n ≡ 0)))) → h ≡ no_head
+head-of_zeros h e = λ i. record { k = e.0 i; c = e.1.0 i; root = e.1.1.0 i; free = e.1.1.1.0 i; n = e.1.1.1.1 i }
 
 -- start as it is called: refused, and past the gate
 module _ (K C : ℕ) (ks : List ℤ) (ls : List ℕ) where

@@ -26,13 +26,12 @@ use Rattle.model.specs.declared.Answer.{Answer}
 use Rattle.model.proofs.Gates.{gate-on, gate-off, checked-shut, checked-open}
 use Rattle.model.proofs.Lists.{Every}
 use Rattle.text.specs.Told.{summed}
-use Rattle.text.specs.declared.Saved.{Saved}
-use Rattle.text.specs.declared.Saved.TheVariants.{Broken, Book as Whole}
+use Rattle.std.proofs.Common.{Result, Ok, Err}
+use Rattle.text.specs.declared.Broken.{Broken}
+use Rattle.text.specs.declared.title.Title.{Title}
 use Rattle.desk.specs.Changes.{Became}
 use Rattle.weigh.specs.Saved.{Saves}
-use Rattle.reply.specs.Gates.{told, pooled}
-use Rattle.reply.specs.declared.gate.Gate.{Gate}
-use Rattle.reply.specs.declared.gate.Gate.TheVariants.{Open, Shut}
+use Rattle.reply.specs.Gates.{Gate, told, pooled}
 use Rattle.reply.proofs.Pools.{behind-shut, pool-refuses}
 use Rattle.book.proofs.Written.{Leaves, leaves-shut, leaves-done, rows-past}
 
@@ -46,13 +45,16 @@ row_of P ((c, q) ∷ rows) r (h, hs) e = go c e (row_of P rows r hs)
     go false w f = f w
 
 -- what a verdict says of its text
-text-broken : (p : Parsed) (l : ℕ) → Broken l ≡ summed p → (is_broken p ≡ true) × (broken_at p ≡ l)
-text-broken (broken m) l e = let q : l ≡ m = cc in (refl, sym q)
-text-broken (saved K es) l e = let z : ◌≡◌ {A = ℕ} 0 1 = cc in absurd (omega arith)
+text-broken : (p : Parsed) (l : Broken) → Err l ≡ summed p → (is_broken p ≡ true) × (broken_at p ≡ l.line)
+text-broken (broken m) l e = let q : l ≡ record { line = m } = cc in (refl, sym (ap (λ (x : Broken). x.line) q))
+text-broken (saved K es) l e = cc
 
-text-whole : (p : Parsed) (k n : ℕ) → Whole k n ≡ summed p → (is_broken p ≡ false) × ((fields_of_parsed p ≡ k) × ((p ≡ saved k (entries_in p)) × (length (entries_in p) ≡ n)))
-text-whole (broken m) k n e = let z : ◌≡◌ {A = ℕ} 0 1 = cc in absurd (omega arith)
-text-whole (saved K es) k n e = let a : K ≡ k = cc in let b : length es ≡ n = cc in (refl, (a, (ap (λ x. saved x es) a, b)))
+text-whole : (p : Parsed) (t : Title) → Ok t ≡ summed p → (is_broken p ≡ false) × ((fields_of_parsed p ≡ t.fields) × ((p ≡ saved t.fields (entries_in p)) × (length (entries_in p) ≡ t.entries)))
+text-whole (broken m) t e = cc
+text-whole (saved K es) t e =
+    let q : record { fields = K; entries = length es } ≡ t = cc in
+    let a = ap (λ (x : Title). x.fields) q in
+    (refl, (a, (ap (λ x. saved x es) a, ap (λ (x : Title). x.entries) q)))
 
 module _ (h : Head) (ks : List ℤ) (ls sc text : List ℕ) (g : Gate) (is : g ≡ told (gate (pooled h ks ls (length sc)))) where
   abbrev p : Parsed
@@ -74,21 +76,27 @@ module _ (h : Head) (ks : List ℤ) (ls sc text : List ℕ) (g : Gate) (is : g �
   unfolding take_in
   take-refuses r q x f = leaves-shut (take_in h ks ls sc text) h (broken_at p) ks ls sc r x (checked-shut (rows4s h ks ls sc ++ rows) (λ r. leaving (refused h (broken_at p) r) ks ls sc) (writing h (added_all new b)) r q) f
 
-  pub take-shut : (r : Refusal) → g ≡ Shut r → (x : Answer) → x ≡ refused h 0 r → Leaves (take_in h ks ls sc text) x ks ls sc
+  pub take-shut : (r : Refusal) → g ≡ Err r → (x : Answer) → x ≡ refused h 0 r → Leaves (take_in h ks ls sc text) x ks ls sc
   take-shut r q x f =
       let e = pool-refuses h ks ls (length sc) g is r q in
       let l : line_in r 0 ≡ line_in r (broken_at p) = row_of (λ y. line_in y 0 ≡ line_in y (broken_at p)) (rows4s h ks ls sc) r (refl, (refl, (refl, (refl, tt)))) e in
       take-refuses r (behind-shut (rows4s h ks ls sc) rows r e) x (f ∙ (λ i. record { outcome = Refused r; head = h; entry = outward []; slot = 0; reads = 0; distance = 0; count = 0; bytes = 0; line = l i; place = 0 }))
 
-  module _ (o : g ≡ Open) (t : Saved) (ts : t ≡ summed p) where
-    pub take-broken : (l : ℕ) → t ≡ Broken l → (x : Answer) → x ≡ refused h l Text → Leaves (take_in h ks ls sc text) x ks ls sc
+  module _ (o : g ≡ Ok tt) (t : Result Title Broken) (ts : t ≡ summed p) where
+    pub take-broken : (l : Broken) → t ≡ Err l → (x : Answer) → x ≡ refused h l.line Text → Leaves (take_in h ks ls sc text) x ks ls sc
     take-broken l q x f =
         let w = text-broken p l (sym q ∙ ts) in
         take-refuses Text (rows-past h ks ls sc g is o rows ∙ gate-on (is_broken p) Text ((not (eqb (fields_of_parsed p) h.k), Mismatch) ∷ full_row) w.0) x (f ∙ ap (λ m. refused h m Text) (sym w.1))
 
-    module _ (k n : ℕ) (q : t ≡ Whole k n) where
+    module _ (w : Title) (q : t ≡ Ok w) where
+      abbrev k : ℕ
+      k = w.fields
+
+      abbrev n : ℕ
+      n = w.entries
+
       whole : (is_broken p ≡ false) × ((fields_of_parsed p ≡ k) × ((p ≡ saved k (entries_in p)) × (length (entries_in p) ≡ n)))
-      whole = text-whole p k n (sym q ∙ ts)
+      whole = text-whole p w (sym q ∙ ts)
 
       past-text : gate (rows4s h ks ls sc ++ rows) ≡ gate ((not (eqb (fields_of_parsed p) h.k), Mismatch) ∷ full_row)
       past-text = rows-past h ks ls sc g is o rows ∙ gate-off (is_broken p) Text ((not (eqb (fields_of_parsed p) h.k), Mismatch) ∷ full_row) whole.0

@@ -26,9 +26,8 @@ use Rattle.model.proofs.Backs.{is-head}
 use Rattle.model.proofs.Gates.{gate-on, gate-off, checked-shut, checked-open}
 use Rattle.weigh.specs.Sounds.{Sound}
 use Rattle.desk.specs.Changes.{Became}
-use Rattle.reply.specs.Gates.{told, pooled}
-use Rattle.reply.specs.declared.gate.Gate.{Gate}
-use Rattle.reply.specs.declared.gate.Gate.TheVariants.{Open, Shut}
+use Rattle.std.specs.Prelude.{Ok, Err}
+use Rattle.reply.specs.Gates.{Gate, told, pooled}
 use Rattle.reply.proofs.Gates.{scratch-fits}
 use Rattle.reply.proofs.Pools.{behind-shut, behind-open, all-open, pool-refuses, pool-held, front-open}
 
@@ -53,13 +52,13 @@ leaves-done a h r b ks ls sc x e w f z =
 
 -- what an open gate tells
 module _ (h : Head) (ks : List ℤ) (ls sc : List ℕ) (g : Gate) (is : g ≡ told (gate (pooled h ks ls (length sc)))) where
-  pub sound-pool : g ≡ Open → Sound h ks ls
+  pub sound-pool : g ≡ Ok tt → Sound h ks ls
   sound-pool o = pool-held h ks ls (length sc) g is o
 
-  pub scratch-long : g ≡ Open → length sc ≡ h.c
+  pub scratch-long : g ≡ Ok tt → length sc ≡ h.c
   scratch-long o = scratch-fits h.k h.c (length ks) (length ls) (length sc) (front-open h ks ls (length sc) g is o)
 
-  pub rows-past : g ≡ Open → (more : List Row) → gate (rows4s h ks ls sc ++ more) ≡ gate more
+  pub rows-past : g ≡ Ok tt → (more : List Row) → gate (rows4s h ks ls sc ++ more) ≡ gate more
   rows-past o more = behind-open (rows4s h ks ls sc) more (all-open h ks ls (length sc) g is o)
 
 module _ (h : Head) (ks : List ℤ) (ls sc : List ℕ) (e : Four) (g : Gate) (is : g ≡ told (gate (pooled h ks ls (length sc)))) where
@@ -83,13 +82,13 @@ module _ (h : Head) (ks : List ℤ) (ls sc : List ℕ) (e : Four) (g : Gate) (is
   unfolding strike_out
   strike-refuses r q x f = leaves-shut (strike_out h ks ls sc e) h 0 ks ls sc r x (checked-shut (rows4s h ks ls sc ++ strike_rows) (λ r. leaving (refused h 0 r) ks ls sc) (writing h (struck (inward h.k e) b)) r q) f
 
-  pub add-shut : (r : Refusal) → g ≡ Shut r → (x : Answer) → x ≡ refused h 0 r → Leaves (add h ks ls sc e) x ks ls sc
+  pub add-shut : (r : Refusal) → g ≡ Err r → (x : Answer) → x ≡ refused h 0 r → Leaves (add h ks ls sc e) x ks ls sc
   add-shut r q = add-refuses r (behind-shut (rows4s h ks ls sc) add_rows r (pool-refuses h ks ls (length sc) g is r q))
 
-  pub strike-shut : (r : Refusal) → g ≡ Shut r → (x : Answer) → x ≡ refused h 0 r → Leaves (strike_out h ks ls sc e) x ks ls sc
+  pub strike-shut : (r : Refusal) → g ≡ Err r → (x : Answer) → x ≡ refused h 0 r → Leaves (strike_out h ks ls sc e) x ks ls sc
   strike-shut r q = strike-refuses r (behind-shut (rows4s h ks ls sc) strike_rows r (pool-refuses h ks ls (length sc) g is r q))
 
-  module _ (o : g ≡ Open) (z : Bool) (zs : z ≡ there) where
+  module _ (o : g ≡ Ok tt) (z : Bool) (zs : z ≡ there) where
     past : (more : List Row) → gate (rows4s h ks ls sc ++ more) ≡ gate more
     past = rows-past h ks ls sc g is o
 

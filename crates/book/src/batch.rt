@@ -3,9 +3,7 @@ ghost use Rattle.std.specs.Prelude.{◌≡◌};
 ghost use Rattle.model.specs.Tray as trays;
 
 use model::{Answer, Head, Outcome};
-use reply::gate::Gate;
 use reply::{answer, gate};
-use weigh::judging::First;
 
 // Every item is judged before the first cell changes, so a refused tray has written nothing.
 pub fn tray(
@@ -20,15 +18,13 @@ pub fn tray(
     ensures links { links.new ≡ (trays.tray head keys.old links.old scratch.old items.now).links }
     ensures scratch { scratch.new ≡ (trays.tray head keys.old links.old scratch.old items.now).scratch }
 {
-    let g = gate::tray(head, keys, links, scratch.len(), items);
-    if let Gate::Shut(why) = g {
+    if let Err(why) = gate::tray(head, keys, links, scratch.len(), items) {
         return answer::refused(head, why);
     }
-    let w = weigh::judging::first_wrong(head, keys, links, items);
-    if let First::Item(place, why) = w {
+    if let Some((place, why)) = weigh::judging::first_wrong(head, keys, links, items) {
         return answer::refused_at(head, place, why);
     }
-    build::gather::clear(scratch);
+    scratch.fill(0);
     let after = desk::spare::work(head, keys, links, scratch, items);
     answer::plain(Outcome::Done, after)
 }

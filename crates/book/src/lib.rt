@@ -4,12 +4,10 @@
 ghost use Rattle.std.specs.Prelude.{◌≡◌};
 ghost use Rattle.model.specs.Calls as calls;
 
-use ask::near::Best;
 use ask::walk::Walk;
 use model::{Answer, Bound, Entry, Head, Outcome, Refusal, Shape};
-use reply::gate::Gate;
 use reply::{answer, gate};
-use text::Saved;
+use text::{Broken, Title};
 
 mod batch; // batch.rt: many adds and strikes in one call
 
@@ -21,16 +19,8 @@ pub fn start(k: usize, c: usize, keys: &mut [i64], links: &mut [usize]) -> Answe
     ensures keys { keys.new ≡ (calls.start k c keys.old links.old).keys }
     ensures links { links.new ≡ (calls.start k c keys.old links.old).links }
 {
-    let g = gate::sizes(k, c, keys.len(), links.len(), c);
-    if let Gate::Shut(why) = g {
-        let none = Head {
-            k: 0,
-            c: 0,
-            root: 0,
-            free: 0,
-            n: 0,
-        };
-        return answer::refused(none, why);
+    if let Err(why) = gate::sizes(k, c, keys.len(), links.len(), c) {
+        return answer::refused(Head::default(), why);
     }
     desk::fresh::clear_numbers(keys);
     desk::fresh::chain_up(links, c);
@@ -41,15 +31,13 @@ pub fn start(k: usize, c: usize, keys: &mut [i64], links: &mut [usize]) -> Answe
 pub fn look_up(head: Head, keys: &[i64], links: &[usize], entry: Entry) -> Answer
     ensures { result ≡ (calls.look_up head keys.now links.now entry).answer }
 {
-    let k = head.k;
-    let c = head.c;
-    let g = gate::sizes(k, c, keys.len(), links.len(), c);
-    if let Gate::Shut(why) = g {
+    if let Err(why) = gate::sizes(head.k, head.c, keys.len(), links.len(), head.c) {
         return answer::refused(head, why);
     }
-    let w = ask::walk::walk_down(Shape { k, c }, head.root, entry, keys, links);
-    match w {
-        Walk::Found(slot, reads) => answer::met(head, sheet::cut::cut_to(entry, k), slot, reads),
+    match ask::walk::walk_down(Shape::from(head), head.root, entry, keys, links) {
+        Walk::Found(slot, reads) => {
+            answer::met(head, sheet::cut::cut_to(entry, head.k), slot, reads)
+        }
         Walk::Gone(reads) => answer::unmet(head, reads),
         Walk::Astray => answer::refused(head, Refusal::Unsound),
     }
@@ -59,8 +47,7 @@ pub fn look_up(head: Head, keys: &[i64], links: &[usize], entry: Entry) -> Answe
 pub fn count(head: Head, keys: &[i64], links: &[usize], bounds: [Bound; 4]) -> Answer
     ensures { result ≡ (calls.count head keys.now links.now bounds).answer }
 {
-    let g = gate::pool(head, keys, links, head.c);
-    if let Gate::Shut(why) = g {
+    if let Err(why) = gate::pool(head, keys, links, head.c) {
         return answer::refused(head, why);
     }
     let n = sheet::spare::count(head, keys, links, bounds);
@@ -78,15 +65,13 @@ pub fn list(
     ensures answer { result ≡ (calls.list head keys.now links.now bounds room.old).answer }
     ensures room { room.new ≡ (calls.list head keys.now links.now bounds room.old).room }
 {
-    let g = gate::pool(head, keys, links, head.c);
-    if let Gate::Shut(why) = g {
+    if let Err(why) = gate::pool(head, keys, links, head.c) {
         return answer::refused(head, why);
     }
-    let f = sheet::spare::list(head, keys, links, bounds, room);
-    if f.fits {
-        return answer::counted(head, f.count);
+    match sheet::spare::list(head, keys, links, bounds, room) {
+        Ok(count) => answer::counted(head, count),
+        Err(_) => answer::refused(head, Refusal::Room),
     }
-    answer::refused(head, Refusal::Room)
 }
 
 // The entry nearest a note, by steps; at a tie the first in listing order.
@@ -95,18 +80,13 @@ pub fn nearest(head: Head, keys: &[i64], links: &[usize], query: Entry, steps: [
 {
     let k = head.k;
     let c = head.c;
-    let g = gate::pool(head, keys, links, c);
-    if let Gate::Shut(why) = g {
+    if let Err(why) = gate::pool(head, keys, links, c) {
         return answer::refused(head, why);
     }
     if weigh::step::zero_step(steps, k) {
         return answer::refused(head, Refusal::Step);
     }
-    let none = Best {
-        slot: 0,
-        distance: 0,
-    };
-    let b = ask::near::nearest_in(
+    let found = ask::near::nearest_in(
         Shape { k, c },
         head.root,
         0,
@@ -114,11 +94,11 @@ pub fn nearest(head: Head, keys: &[i64], links: &[usize], query: Entry, steps: [
         steps,
         keys,
         links,
-        none,
+        None,
     );
-    if b.slot == 0 {
+    let Some(b) = found else {
         return answer::plain(Outcome::Absent, head);
-    }
+    };
     let e = cells::slot::entry_at(keys, Shape { k, c }, b.slot);
     answer::close(head, e, b.slot, b.distance)
 }
@@ -136,18 +116,16 @@ pub fn add(
     ensures links { links.new ≡ (calls.add head keys.old links.old scratch.old entry).links }
     ensures scratch { scratch.new ≡ (calls.add head keys.old links.old scratch.old entry).scratch }
 {
-    let c = head.c;
-    let g = gate::pool(head, keys, links, scratch.len());
-    if let Gate::Shut(why) = g {
+    if let Err(why) = gate::pool(head, keys, links, scratch.len()) {
         return answer::refused(head, why);
     }
     if weigh::pool::is_there(head, keys, links, entry) {
         return answer::refused(head, Refusal::Present);
     }
-    if head.n == c {
+    if head.n == head.c {
         return answer::refused(head, Refusal::Full);
     }
-    build::gather::clear(scratch);
+    scratch.fill(0);
     let after = desk::spare::add(head, keys, links, scratch, entry);
     answer::plain(Outcome::Done, after)
 }
@@ -165,14 +143,13 @@ pub fn strike(
     ensures links { links.new ≡ (calls.strike_out head keys.old links.old scratch.old entry).links }
     ensures scratch { scratch.new ≡ (calls.strike_out head keys.old links.old scratch.old entry).scratch }
 {
-    let g = gate::pool(head, keys, links, scratch.len());
-    if let Gate::Shut(why) = g {
+    if let Err(why) = gate::pool(head, keys, links, scratch.len()) {
         return answer::refused(head, why);
     }
     if !weigh::pool::is_there(head, keys, links, entry) {
         return answer::refused(head, Refusal::Missing);
     }
-    build::gather::clear(scratch);
+    scratch.fill(0);
     let after = desk::spare::strike(head, keys, links, scratch, entry);
     answer::plain(Outcome::Done, after)
 }
@@ -182,15 +159,13 @@ pub fn save(head: Head, keys: &[i64], links: &[usize], room: &mut [u8]) -> Answe
     ensures answer { result ≡ (calls.save head keys.now links.now room.old).answer }
     ensures page { room.new ≡ (calls.save head keys.now links.now room.old).page }
 {
-    let g = gate::pool(head, keys, links, head.c);
-    if let Gate::Shut(why) = g {
+    if let Err(why) = gate::pool(head, keys, links, head.c) {
         return answer::refused(head, why);
     }
-    let p = sheet::spare::save(head, keys, links, room);
-    if p.fits {
-        return answer::wrote(head, p.bytes);
+    match sheet::spare::save(head, keys, links, room) {
+        Some(bytes) => answer::wrote(head, bytes),
+        None => answer::refused(head, Refusal::Room),
     }
-    answer::refused(head, Refusal::Room)
 }
 
 // A saved text, whole or not at all: what is not yet there is added in text order, and nothing is struck.
@@ -207,20 +182,24 @@ pub fn take_in(
     ensures scratch { scratch.new ≡ (calls.take_in head keys.old links.old scratch.old text.now).scratch }
 {
     let k = head.k;
-    let g = gate::pool(head, keys, links, scratch.len());
-    if let Gate::Shut(why) = g {
+    if let Err(why) = gate::pool(head, keys, links, scratch.len()) {
         return answer::refused(head, why);
     }
     match text::take_apart(text) {
-        Saved::Broken(line) => answer::broken(head, line),
-        Saved::Book(fields, lines) => {
+        Err(Broken { line }) => answer::broken(head, line),
+        Ok(
+            Title {
+                fields,
+                entries: lines,
+            },
+        ) => {
             if fields != k {
                 return answer::refused(head, Refusal::Mismatch);
             }
             if weigh::lines::too_many(head, keys, links, text, lines) {
                 return answer::refused(head, Refusal::Full);
             }
-            build::gather::clear(scratch);
+            scratch.fill(0);
             let after = desk::spare::take_in(head, keys, links, scratch, text, lines);
             answer::plain(Outcome::Done, after)
         }

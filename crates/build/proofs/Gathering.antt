@@ -1,11 +1,11 @@
--- What `gather` and `clear` need: stores of one list behind another, and that the slots of a tree lie in its links alone.
+-- What `gather` needs: stores of one list behind another, and that the slots of a tree lie in its links alone.
 use mathlib.Core.Path.{◌≡◌, sym, ap, ap₂, ◌∙◌}
-use mathlib.Core.List.{List, [], ◌∷◌, ◌++◌, append_assoc, append-nil}
+use mathlib.Core.List.{List, [], ◌∷◌, ◌++◌, append_assoc}
 use Prim.Native.Nat.{ℕ, suc, ◌+◌, ◌-◌, ◌≤◌, ◌<◌, max}
 use native.Mathlib.Omega.{arith}
 use native.Mathlib.Numerals.{add-one}
-use lib.ListN.{length, set, take, drop, replicate, length-set, length-append, replicate-append-replicate}
-use lib.Seq.{sets, sets-eq, take-suc-set, take_all, drop-length}
+use lib.ListN.{length, set, take, drop, length-set, length-append}
+use lib.Seq.{sets, sets-eq}
 use lib.IntN.{ℤ}
 use Rattle.model.specs.Tree.{Tree, nil, node, height, items}
 use Rattle.model.proofs.Strikes.{slots, slots-append}
@@ -93,17 +93,3 @@ gathered-node ls sc sc₁ sc₂ s at k x l r le f ne n₁ el a er b = record { n
         let second : sets (set sc₁ k s) (suc k) j ≡ sc₂ = placed j (set sc₁ k s) (suc k) (omega arith) ∙ sym (rw add-one at (b.written K ks n.r (rw er n.right))) in
         let both : sets sc at (i ++ (s ∷ j)) ≡ sc₂ = sets-append sc at i (s ∷ j) ∙ rw (first, ← y) second in
         sym both ∙ rw (← whole) (placed (slots u) sc at (omega arith))
-
--- a list that the slots fill
-pub gathered-all : (K : ℕ) (ks : List ℤ) (ls before after : List ℕ) (s r : ℕ) (u : Tree) → Gathered ls before after s 0 r → Rep K ks ls s u → length before ≡ length (slots u) → after ≡ slots u
-gathered-all K ks ls before after s r u g h n =
-    let e : 0 + length (slots u) ≡ length before = omega arith in
-    g.written K ks u h ∙ rw (e, drop-length before) (append-nil (slots u))
-
--- ---- `clear`: what was passed is 0
-
-pub clear-on : (l : List ℕ) (i : ℕ) → i < length l → take i l ≡ replicate i 0 → take (i + 1) (set l i 0) ≡ replicate (i + 1) 0
-clear-on l i h e = rw add-one (take-suc-set l i 0 h ∙ ap (λ (x : List ℕ). x ++ (0 ∷ [])) e ∙ replicate-append-replicate i 1 0 ∙ ap (λ (n : ℕ). replicate n 0) (add-one i))
-
-pub clear-end : (l₀ l : List ℕ) (i : ℕ) → length l ≡ length l₀ → i ≤ length l₀ → length l ≤ i → take i l ≡ replicate i 0 → l ≡ replicate (length l₀) 0
-clear-end l₀ l i n le h e = sym (take_all i l h) ∙ e ∙ ap (λ (n : ℕ). replicate n 0) (let x : i ≡ length l₀ = omega arith in x)

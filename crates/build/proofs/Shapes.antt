@@ -5,7 +5,6 @@ use mathlib.Core.List.Permᴰ
 use mathlib.Core.List.{List, [], ◌∷◌, ◌++◌}
 use Prim.Native.Nat.{ℕ, zero, suc, ◌+◌, ◌/◌, ◌≤◌, ◌<◌}
 use native.Mathlib.Omega.{arith}
-use native.Mathlib.Nat.{mul-le-mul_left}
 use native.Mathlib.Numerals.{add-one}
 use lib.ListN.{length, get_or, take, drop, length-append}
 use lib.Seq.{split_at, take_at, drop_at, length-take-le}
@@ -21,7 +20,7 @@ use Rattle.model.proofs.Ranks.{rebuild-perm}
 use Rattle.model.proofs.Strikes.{slots, slots-append, slots-perm}
 use Rattle.cells.specs.Slots.{left_at, right_at, Slot, Room}
 use Rattle.cells.specs.Memory.{Rep, In}
-use Rattle.rank.specs.Ranking.{item_at, items_at, InTable, InTables, Ranked}
+use Rattle.rank.specs.Ranking.{item_at, items_at, Ranked}
 use Rattle.build.specs.Rebuilding.{Chosen}
 use Rattle.rank.proofs.Merging.{rank-items, slots_items, ranked-slots, ranked-perm}
 
@@ -143,11 +142,6 @@ parts C a k b h =
       not_right = λ i. every_in (λ y. ¬ (k ≡ y)) b o.1.0 k i refl;
       apart = λ j i g. every_in (λ y. ¬ (j ≡ y)) b (every_in (λ x. Every (λ y. ¬ (x ≡ y)) (k ∷ b)) a o.2 j i).1 j g refl;
     }
-
--- what a pool's slots are to its tables
-pub chosen-tables : (S : Shape) (nk nl : ℕ) (ss : List ℕ) → Room S nk nl → Chosen S.c ss → InTables S.k nk ss
-chosen-tables S nk nl ss room h = every_map (InPool S.c) (InTable S.k nk)
-    (λ s p. record { keyed = record { some = p.0; fits = rw room.wide (mul-le-mul_left S.k p.1) }; low = let a = room.c_high in let b = p.1 in omega arith }) ss h.each
 
 pub pool-slot : (S : Shape) (nk nl s : ℕ) → Room S nk nl → InPool S.c s → Slot nl s
 pool-slot S nk nl s room p = record { some = p.0; fits = let a = room.long in let b = p.1 in omega arith }

@@ -62,18 +62,13 @@ pub fn rebuild_few(
     requires chosen { Chosen shape.c slots.now × (length slots.now ≤ 3) }
     ensures { Rebuilt shape.k keys.now cut links.old links.new slots.now result }
 {
-    let n = slots.len();
-    if n == 0 {
-        return 0;
+    match slots {
+        [] => 0,
+        &[a] => {
+            put_links(links, a, 0, 0, 1);
+            a
+        }
+        &[a, b] => rebuild_two(keys, links, shape, cut, a, b),
+        &[a, b, c, ..] => rebuild_three(keys, links, shape, cut, a, b, c),
     }
-    let a = slots[0];
-    if n == 1 {
-        put_links(links, a, 0, 0, 1);
-        return a;
-    }
-    let b = slots[1];
-    if n == 2 {
-        return rebuild_two(keys, links, shape, cut, a, b);
-    }
-    rebuild_three(keys, links, shape, cut, a, b, slots[2])
 }

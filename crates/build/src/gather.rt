@@ -1,10 +1,11 @@
 // The slots of a tree as a list in lent memory.
-ghost use Rattle.std.specs.Prelude.{◌≡◌, ◌-◌, ◌≤◌, length, replicate};
+ghost use Rattle.std.specs.Prelude.{◌-◌, ◌≤◌, length};
 ghost use Rattle.build.specs.Rebuilding.{Fitting, Gathered};
 
 use cells::slot::{left_of, right_of};
 
 // Stores the slots of the tree at s from `at` on, in order, and returns the place behind them.
+// A place and no sub-slice: it is one running index, where counts of sub-slices would be added up at every node.
 pub fn gather(links: &[usize], s: usize, slots: &mut [usize], at: usize) -> usize
     requires at_in_bounds { at ≤ length slots.old }
     requires fitting { Fitting links.now s (length slots.old - at) }
@@ -18,16 +19,5 @@ pub fn gather(links: &[usize], s: usize, slots: &mut [usize], at: usize) -> usiz
         slots[m] = s;
         let r = right_of(links, s);
         gather(links, r, slots, m + 1)
-    }
-}
-
-// Sets all to 0.
-pub fn clear(slots: &mut [usize])
-    ensures { slots.new ≡ replicate (length slots.old) 0 }
-{
-    let mut i: usize = 0;
-    while i < slots.len() {
-        slots[i] = 0;
-        i += 1;
     }
 }

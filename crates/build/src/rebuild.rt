@@ -7,20 +7,13 @@ ghost use Rattle.build.specs.Rebuilding.{Chosen, Rebuilt};
 use cells::slot::{height_of, put_links};
 use model::Shape;
 
-// The greater of two heights.
-pub fn greater(a: usize, b: usize) -> usize
-    ensures { result ≡ max a b }
-{
-    if a < b { b } else { a }
-}
-
 // Links s to l and r, with the height that follows.
 pub fn refresh(links: &mut [usize], s: usize, l: usize, r: usize)
     requires slot { Slot (length links.old) s × ((3 * l ≤ length links.old) × (3 * r ≤ length links.old)) }
     requires r_bound { max (tall links.old l) (tall links.old r) < 2 ^ 63 }
     ensures { Put links.old links.new s l r (suc (max (tall links.old l) (tall links.old r))) }
 {
-    let h = greater(height_of(links, l), height_of(links, r));
+    let h = height_of(links, l).max(height_of(links, r));
     put_links(links, s, l, r, h + 1);
 }
 

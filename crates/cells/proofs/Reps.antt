@@ -81,9 +81,6 @@ in-cases j (x ∷ a) b (inr h) = ⊎_elim (λ i. inl (inr i)) (λ i. inr i) (in-
 pub in-node : (j : ℕ) (i : Item) (l r : Tree) → In j (slots l) ⊎ ((j ≡ i.slot) ⊎ In j (slots r)) → In j (slots (node i l r))
 in-node j i l r h = rw (slots-append (items l) (i ∷ items r)) (⊎_elim (in_left j (slots l) (i.slot ∷ slots r)) (in_right j (slots l) (i.slot ∷ slots r)) h)
 
-pub node_in : (j : ℕ) (i : Item) (l r : Tree) → In j (slots (node i l r)) → In j (slots l) ⊎ ((j ≡ i.slot) ⊎ In j (slots r))
-node_in j i l r h = in-cases j (slots l) (i.slot ∷ slots r) (rw (slots-append (items l) (i ∷ items r)) at h)
-
 -- tables as long, with the same cells at the slots of a tree, hold the tree too
 pub rep-same : (K : ℕ) (ks ks' : List ℤ) (ls ls' : List ℕ) → length ls' ≡ length ls → (s : ℕ) (u : Tree) → ((j : ℕ) → 1 ≤ j → In j (slots u) → Same K ks ks' ls ls' j) → Rep K ks ls s u → Rep K ks' ls' s u
 rep-same K ks ks' ls ls' e s nil same p = p

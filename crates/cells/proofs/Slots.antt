@@ -1,7 +1,6 @@
 -- The links and the numbers of a slot, read and written.
-use mathlib.Core.Path.{◌≡◌, refl, sym, ap, ◌∙◌}
+use mathlib.Core.Path.{◌≡◌, refl, sym, ◌∙◌}
 use mathlib.Core.Logic.{◌⊎◌, inl, inr}
-use mathlib.Core.Bool.{Bool, true, false, cond}
 use mathlib.Core.List.{List}
 use Prim.Native.Nat.{ℕ, zero, suc, ◌+◌, ◌-◌, ◌*◌, ◌≤◌, ◌<◌}
 use native.Mathlib.Decide.{dec_le}
@@ -9,13 +8,10 @@ use native.Mathlib.Nat.{mul-suc, mul-le-mul_left, mul-le-mul_right}
 use native.Mathlib.Numerals.{sub-one}
 use native.Mathlib.Omega.{arith}
 use lib.ListN.{length, get_or, set, take, drop, length-set, length-drop}
-use lib.Seq.{get_or-set_same, get_or-set_other, get_or-take, get_or-drop, length-take-le}
-use lib.IntN.{ℤ, pos}
-use Rattle.model.specs.Entry.{Entry}
-use Rattle.cells.specs.Orders.{Compared}
-use Rattle.cells.specs.Slots.{left_at, right_at, height_at, tall, address_of, numbers_of, Slot, Keyed, SlotsCompared, EntryCompared}
+use lib.Seq.{get_or-set_same, get_or-set_other, length-take-le}
+use lib.IntN.{ℤ}
+use Rattle.cells.specs.Slots.{left_at, right_at, height_at, tall, address_of, numbers_of, Slot, Keyed}
 use Rattle.cells.specs.Memory.{Put}
-use Rattle.cells.specs.declared.order.Order.{Order}
 
 -- the memory with three cells stored from index i on
 abbrev pub stored : List ℕ → ℕ → ℕ → ℕ → ℕ → List ℕ
@@ -100,31 +96,6 @@ part-is : (K : ℕ) (ks : List ℤ) (s : ℕ) → take ((address_of K s + K) - a
 unfolding numbers_of
 part-is K ks s = let e : (address_of K s + K) - address_of K s ≡ K = omega arith in rw e refl
 
-part-long : (K : ℕ) (ks : List ℤ) (s : ℕ) → Keyed K (length ks) s → length (take ((address_of K s + K) - address_of K s) (drop (address_of K s) ks)) ≡ K
-part-long K ks s h = ap length (part-is K ks s) ∙ numbers-long K ks s h
-
--- the needs of the two comparisons: i and j are the addresses
-module _ (K c : ℕ) (ks : List ℤ) (a b i j : ℕ) (ei : i ≡ address_of K a) (ej : j ≡ address_of K b) (ha : Keyed K (length ks) a) (hb : Keyed K (length ks) b) where
-  pub parts-ready : c < K → (c < length (take ((i + K) - i) (drop i ks))) × (length (take ((i + K) - i) (drop i ks)) ≡ length (take ((j + K) - j) (drop j ks)))
-  parts-ready h = rw (ei, ej) (let x = part-long K ks a ha in let y = part-long K ks b hb in (omega arith, omega arith))
-
-  pub parts-compared : (o : Order) → Compared (take ((i + K) - i) (drop i ks)) (take ((j + K) - j) (drop j ks)) c o → SlotsCompared K ks a b c o
-  parts-compared o r =
-      let q : Compared (numbers_of K ks a) (numbers_of K ks b) c o = rw (ei, ej, part-is K ks a, part-is K ks b) at r in
-      record { at = λ t e. q.at t (rw (numbers-long K ks a ha) e) }
-
-module _ (K c : ℕ) (f : Entry) (ks : List ℤ) (b j : ℕ) (ej : j ≡ address_of K b) (four : length f ≡ 4) (small : K ≤ 4) (hb : Keyed K (length ks) b) where
-  front_long : length (take K f) ≡ K
-  front_long = length-take-le K f (omega arith)
-
-  pub entry_ready : c < K → (c < length (take K f)) × (length (take K f) ≡ length (take ((j + K) - j) (drop j ks)))
-  entry_ready h = rw ej (let x = front_long in let y = part-long K ks b hb in (omega arith, omega arith))
-
-  pub entry-compared : (o : Order) → Compared (take K f) (take ((j + K) - j) (drop j ks)) c o → EntryCompared K f ks b c o
-  entry-compared o r =
-      let q : Compared (take K f) (numbers_of K ks b) c o = rw (ej, part-is K ks b) at r in
-      record { at = λ t e. q.at t (rw front_long e) }
-
 -- no address passes 4 times 4,096
 pub address-low : (K s : ℕ) → K ≤ 4 → s ≤ 4096 → K * (s - 1) ≤ 16384
 address-low K s h g =
@@ -141,20 +112,3 @@ address-ends K n s i e h = let a = slot-end K s h.some in let b = h.fits in omeg
 
 pub part_at : (K : ℕ) (ks : List ℤ) (s i : ℕ) → i ≡ address_of K s → take ((i + K) - i) (drop i ks) ≡ numbers_of K ks s
 part_at K ks s i e = rw e (part-is K ks s)
-
--- one number of a slot
-module _ (K : ℕ) (ks : List ℤ) (s i f : ℕ) (e : i ≡ address_of K s) (h : f < K) where
-  pub number_is : get_or ks (i + f) (pos 0) ≡ get_or (numbers_of K ks s) f (pos 0)
-  unfolding numbers_of
-  number_is = rw (get_or-take K (drop (address_of K s) ks) f (pos 0) h, get_or-drop (address_of K s) ks f (pos 0)) (ap (λ a. get_or ks (a + f) (pos 0)) e)
-
-  pub number_in : Keyed K (length ks) s → i + f < length ks
-  number_in k = let a = address-ends K (length ks) s i e k in omega arith
-
--- one of two
-module _ (right : Bool) (l r : ℕ) where
-  pub picked-right : right ≡ true → r ≡ cond right r l
-  picked-right e = rw e refl
-
-  pub picked-left : right ≡ false → l ≡ cond right r l
-  picked-left e = rw e refl

@@ -5,10 +5,10 @@ use mathlib.Core.List.{List, [], ◌∷◌, ◌++◌, append_assoc}
 use Prim.Native.Nat.{ℕ, zero, suc, ◌+◌, ◌-◌, ◌*◌, ◌≤◌, ◌<◌}
 use native.Mathlib.Decide.{dec_le}
 use native.Mathlib.Nat.{mul-le-mul_left, add-suc, suc-add, add-zero}
-use native.Mathlib.Numerals.{add-one}
 use native.Mathlib.Omega.{arith}
 use lib.ListN.{length, get_or, set, take, drop, replicate, length-take, length-drop}
-use lib.Seq.{sets, sets-eq, length-sets, take-suc, take_at, drop_at, set_at, get_or-take, get_or-drop, get_or-set_other, ext_get_or, length-take-le}
+use borrow.Rule.Slice.PartMut.{put_mid}
+use lib.Seq.{sets, sets-eq, length-sets, drop-drop, take_at, drop_at, get_or-take, get_or-drop, get_or-set_other, ext_get_or, length-take-le}
 use lib.IntN.{ℤ, pos}
 use Rattle.model.specs.Entry.{Entry}
 use Rattle.cells.specs.Slots.{Slot, left_at, address_of, numbers_of, Keyed}
@@ -18,12 +18,6 @@ use Rattle.cells.proofs.Slots.{slot-end}
 pub sets-append : {A : Type 0} (l : List A) (i : ℕ) (a b : List A) → sets l i (a ++ b) ≡ sets (sets l i a) (i + length a) b
 sets-append l i [] b = rw add-zero
 sets-append l i (x ∷ a) b = sets-append (set l i x) (suc i) a b ∙ rw (suc-add, add-suc)
-
--- one number more
-pub write-more : (l f : List ℤ) (at i : ℕ) → i < length f → set (sets l at (take i f)) (at + i) (get_or f i (pos 0)) ≡ sets l at (take (i + 1) f)
-write-more l f at i h =
-    let n : length (take i f) ≡ i = length-take-le i f (omega arith) in
-    rw (add-one, take-suc f i (pos 0)) (sym (sets-append l at (take i f) (get_or f i (pos 0) ∷ []) ∙ rw n refl))
 
 -- a number in front of what was written, or behind it
 sets-other : (vs l : List ℤ) (i x : ℕ) → (x < i) ⊎ (i + length vs ≤ x) → get_or (sets l i vs) x (pos 0) ≡ get_or l x (pos 0)
@@ -74,19 +68,12 @@ wrote K ks s vs h n = record { exactly = refl; numbers = here; others = λ ls j 
         ∙ sets-other vs ks a (b + i) (place K a b (length vs) i (apart K s j h.some p ne) n k)
         ∙ sym (get_or-take K (drop b ks) i (pos 0) k ∙ get_or-drop b ks i (pos 0)))
 
--- one number more of an entry
-pub fill_more : (l g : List ℤ) (i : ℕ) → i < length l → length l ≤ 4 → g ≡ take i l ++ replicate (4 - i) (pos 0) → set g i (get_or l i (pos 0)) ≡ take (i + 1) l ++ replicate (4 - (i + 1)) (pos 0)
-fill_more l g i h k e =
-    let f : 4 - i ≡ suc (4 - (i + 1)) = omega arith in
-    let n : length (take i l) ≡ i = length-take-le i l (omega arith) in
-    rw (e, f, set_at (take i l) (pos 0) (replicate (4 - (i + 1)) (pos 0)) (get_or l i (pos 0)) i n, add-one, take-suc l i (pos 0)) (simp append_assoc)
-
--- what `put_entry` leaves, from its loop
-pub wrote-all : (K : ℕ) (ks ks' : List ℤ) (s at i : ℕ) (f : Entry) → at ≡ address_of K s → Keyed K (length ks) s → K ≤ length f → i ≡ K → ks' ≡ sets ks at (take i f) → Wrote K ks ks' s (take K f)
-wrote-all K ks ks' s at i f e h g j q = rw (q, j, e) (wrote K ks s (take K f) h (length-take-le K f g))
-
-pub kept-length : (ks ks' vs : List ℤ) (at : ℕ) → ks' ≡ sets ks at vs → length ks' ≡ length ks
-kept-length ks ks' vs at q = ap length q ∙ length-sets ks at vs
+-- what `put_entry` leaves, where a copy of so many numbers is a part of the table
+pub wrote_part : (K : ℕ) (ks xs vs : List ℤ) (s at k : ℕ) → at ≡ address_of K s → Keyed K (length ks) s → k ≡ K → length vs ≡ K → xs ≡ vs → Wrote K ks (put_mid at k ks xs) s vs
+wrote_part K ks xs vs s at k e h j n q =
+    let f : address_of K s + length vs ≤ length ks = let d = slot-end K s h.some in let g = h.fits in omega arith in
+    let p : sets ks (address_of K s) vs ≡ put_mid (address_of K s) K ks vs = sets-eq vs ks (address_of K s) f ∙ rw (n, drop-drop) (append_assoc (take (address_of K s) ks) vs (drop (address_of K s + K) ks)) in
+    rw (q, e, j, ← p) (wrote K ks s vs h n)
 
 -- numbers and then links of one slot: every other slot
 both_others : (K : ℕ) (ks ks' : List ℤ) (ls ls' : List ℕ) (s l r h : ℕ) (e : Entry) → Wrote K ks ks' s e → Put ls ls' s l r h → Frame K ks ks' ls ls' (s ∷ [])

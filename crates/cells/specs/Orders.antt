@@ -2,9 +2,10 @@
 use Rattle.std.specs.Prelude.{◌≡◌, length}
 use Prim.Native.Nat.{ℕ, suc, ◌<◌, Ordering}
 use Rattle.model.specs.Entry.{Entry, cut_field, cmp}
-use Rattle.cells.specs.declared.order.Order.{Order}
-use Rattle.cells.specs.declared.order.Order.TheVariants.{Less, Equal, Greater}
+use Rattle.std.specs.declared.cmp.Ordering.{Ordering as Order}
+use Rattle.std.specs.declared.cmp.Ordering.TheVariants.{Less, Equal, Greater}
 
+-- an order of the model, as std names it
 abbrev pub named : Ordering → Order
 named Ordering.lt = Less
 named Ordering.eq = Equal

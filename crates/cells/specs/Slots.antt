@@ -3,7 +3,7 @@ use Rattle.std.specs.Prelude.{◌≡◌, List, ℕ, zero, suc, ◌+◌, ◌-◌,
 use Rattle.model.specs.Entry.{Entry, cut_field, cmp}
 use Rattle.model.specs.declared.Shape.{Shape}
 use Rattle.cells.specs.Orders.{named}
-use Rattle.cells.specs.declared.order.Order.{Order}
+use Rattle.std.specs.declared.cmp.Ordering.{Ordering as Order}
 
 unfoldable pub left_at : List ℕ → ℕ → ℕ
 left_at ls s = get_or ls (3 * (s - 1)) 0

@@ -5,7 +5,7 @@ use mathlib.Core.List.{List, [], ◌∷◌}
 use mathlib.Core.Option.{none}
 use Prim.Native.Nat.{ℕ, ◌+◌, ◌≤◌, ◌<◌}
 use native.Mathlib.Omega.{arith}
-use lib.ListN.{length, get_or, drop, replicate}
+use lib.ListN.{length, get_or, drop}
 use lib.IntN.{ℤ}
 use Rattle.model.specs.Answer.{inward}
 use Rattle.model.specs.Ask.{has, new_of}
@@ -26,11 +26,15 @@ use Rattle.model.proofs.Sounds.{Is}
 use Rattle.model.proofs.Texts.{Taken, rise-once}
 use Rattle.cells.specs.Slots.{Room}
 use Rattle.text.specs.Told.{ReadBack, Stands}
-use Rattle.text.specs.declared.Read.{Read}
+use denote.Bor.{Bor}
+use Rattle.model.specs.declared.Entry.{Entry as Four}
 use Rattle.weigh.specs.Saved.{Saves}
 use Rattle.weigh.specs.Sounds.{Sound}
 use Rattle.weigh.proofs.Held.{its, room-kept}
 use Rattle.weigh.proofs.Saved.{Reading, lines-gone, lines-on, once-at, read-in, reads_on, sized-at, taken}
+use Rattle.mend.specs.Lists.{Blank, Kept}
+use Rattle.mend.specs.declared.lists.Lists.{Lists}
+use Rattle.mend.proofs.Lent.{kept-trans}
 use Rattle.desk.specs.Changes.{Became}
 
 module _ (h : Head) (ks : List ℤ) (ls : List ℕ) (e : Entry) (z : Bool) (zs : z ≡ has e (listing (book_of h ks ls).tree)) where
@@ -46,13 +50,12 @@ module _ (h : Head) (ks : List ℤ) (ls : List ℕ) (e : Entry) (z : Bool) (zs :
   pub comes : z ≡ false → (ks' : List ℤ) (ls' : List ℕ) (r : Head) → Became h ks' ls' (added e b) r → Became h ks' ls' (added_each (e ∷ []) b) r
   comes t ks' ls' r w = rw (each-not e [] b (not_yet t)) w
 
-pub record Putting (h : Head) (ks : List ℤ) (ls : List ℕ) (text : List ℕ) (n : ℕ) (ks' : List ℤ) (ls' sc sp : List ℕ) (after : Head) (at i : ℕ) : Type 0 where
-  pub reading : Reading text n at i
+pub record Putting (h : Head) (ks : List ℤ) (ls : List ℕ) (text : List ℕ) (n : ℕ) (ks' : List ℤ) (ls' : List ℕ) (lt₀ lt : Lists) (after : Head) (left : List ℕ) (i : ℕ) : Type 0 where
+  pub reading : Reading text n left i
   pub became : Became h ks' ls' (book_of after ks' ls') after
   pub goal : added_each (drop i (entries_in (parse text))) (book_of after ks' ls') ≡ added_each (entries_in (parse text)) (book_of h ks ls)
   pub fits : size (book_of after ks' ls').tree + length (new_of (listing (book_of after ks' ls').tree) (drop i (entries_in (parse text)))) ≤ h.c
-  pub cleared : sc ≡ replicate h.c 0
-  pub spare : length sp ≡ h.c
+  pub lent : Kept h.c lt₀ lt
   pub wide : length ks' ≡ length ks
   pub long : length ls' ≡ length ls
 
@@ -67,11 +70,11 @@ module _ (h : Head) (ks : List ℤ) (ls : List ℕ) (p : Sound h ks ls) (text : 
     fits-first : size (book_of h ks ls).tree + length new ≤ h.c
     fits-first = let a = (its h ks ls p).count in omega arith
 
-    pub puts_first : (sc sp : List ℕ) (at : ℕ) → sc ≡ replicate h.c 0 → length sp ≡ h.c → Reading text n at 0 → Putting h ks ls text n ks ls sc sp h at 0
-    puts_first sc sp at z d v = record { reading = v; became = record { is = its h ks ls p; k = refl; c = refl }; goal = refl; fits = fits-first; cleared = z; spare = d; wide = refl; long = refl }
+    pub puts_first : (lt : Lists) (left : List ℕ) → Blank h.c lt → Reading text n left 0 → Putting h ks ls text n ks ls lt lt h left 0
+    puts_first lt left z v = record { reading = v; became = record { is = its h ks ls p; k = refl; c = refl }; goal = refl; fits = fits-first; lent = record { blank = z; scratch = refl; spare = refl }; wide = refl; long = refl }
 
-    pub puts-end : (ks' : List ℤ) (ls' sc sp : List ℕ) (after : Head) (at i : ℕ) → Putting h ks ls text n ks' ls' sc sp after at i → n ≤ i → Became h ks' ls' (added_all new (book_of h ks ls)) after
-    puts-end ks' ls' sc sp after at i v l =
+    pub puts-end : (ks' : List ℤ) (ls' : List ℕ) (lt₀ lt : Lists) (after : Head) (left : List ℕ) (i : ℕ) → Putting h ks ls text n ks' ls' lt₀ lt after left i → n ≤ i → Became h ks' ls' (added_all new (book_of h ks ls)) after
+    puts-end ks' ls' lt₀ lt after left i v l =
         let a : added_each ts (book_of h ks ls) ≡ added_all new (book_of h ks ls) = sym (each_same h.k h.c ts (book_of h ks ls) (its h ks ls p).valid t.writable.sized (rise-once none ts t.writable.rising) fits-first) in
         let g : book_of after ks' ls' ≡ added_each ts (book_of h ks ls) = ap (λ (x : List Entry). added_each x (book_of after ks' ls')) (sym (lines-gone text h.k n s i l)) ∙ v.goal in
         subst (λ (b : Book). Became h ks' ls' b after) (g ∙ a) v.became
@@ -79,7 +82,7 @@ module _ (h : Head) (ks : List ℤ) (ls : List ℕ) (p : Sound h ks ls) (text : 
         t : Taken text h.k ts
         t = taken text h.k n s
 
-  module _ (ks' : List ℤ) (ls' sc sp : List ℕ) (after : Head) (at i : ℕ) (v : Putting h ks ls text n ks' ls' sc sp after at i) (l : i < n) where
+  module _ (ks' : List ℤ) (ls' : List ℕ) (lt₀ lt : Lists) (after : Head) (left : List ℕ) (i : ℕ) (v : Putting h ks ls text n ks' ls' lt₀ lt after left i) (l : i < n) where
     abbrev now : Book
     now = book_of after ks' ls'
 
@@ -90,32 +93,28 @@ module _ (h : Head) (ks : List ℤ) (ls : List ℕ) (p : Sound h ks ls) (text : 
     sound-on = record { room = subst (λ (x : Shape). Room x (length ks') (length ls')) (λ j. record { k = sym v.became.k j; c = sym v.became.c j }) (room-kept h (length ks) (length ls) (length ks') (length ls') p.room v.wide v.long); good = (is-sound after ks' ls' now v.became.is).0 }
 
     fits_on : size now.tree + length (new_of (listing now.tree) (e ∷ drop (i + 1) ts)) ≤ h.c
-    fits_on = subst (λ (x : List Entry). size now.tree + length (new_of (listing now.tree) x) ≤ h.c) (lines-on text h.k n s at i v.reading l) v.fits
-
-    pub spared : (sc ≡ replicate after.c 0) × (length sp ≡ after.c)
-    spared = (v.cleared ∙ ap (λ c. replicate c 0) (sym v.became.c), v.spare ∙ sym v.became.c)
+    fits_on = subst (λ (x : List Entry). size now.tree + length (new_of (listing now.tree) x) ≤ h.c) (lines-on text h.k n s left i v.reading l) v.fits
 
     valid-on : Valid h.k h.c now
     valid-on = subst (λ c. Valid h.k c now) v.became.c (subst (λ k. Valid k after.c now) v.became.k v.became.is.valid)
 
-    module _ (r : Read) (f : (x : Entry) (rest : List ℕ) → Stands (drop at text) h.k x rest → ReadBack text r x rest) where
-      its-entry : inward after.k r.entry ≡ e
-      its-entry = ap (λ k. inward k r.entry) v.became.k ∙ read-in text h.k n s at i v.reading l r f
+    module _ (r : Four × Bor (List ℕ)) (f : (x : Entry) (rest : List ℕ) → Stands left h.k x rest → ReadBack r x rest) where
+      its-entry : inward after.k r.0 ≡ e
+      its-entry = ap (λ k. inward k r.0) v.became.k ∙ read-in text h.k n s left i v.reading l r f
 
-      pub room-on : has (inward after.k r.entry) (listing now.tree) ≡ false → after.n < after.c
+      pub room-on : has (inward after.k r.0) (listing now.tree) ≡ false → after.n < after.c
       room-on q = let a = each-room h.c e (drop (i + 1) ts) now fits_on (ap (λ x. has x (listing now.tree)) (sym its-entry) ∙ q) in let d = v.became.is.count in let m = v.became.c in omega arith
 
-      pub puts-on : (ks'' : List ℤ) (ls'' sc'' sp'' : List ℕ) (r'' : Head) → Became after ks'' ls'' (added_each (inward after.k r.entry ∷ []) now) r'' → sc'' ≡ replicate after.c 0 → length sp'' ≡ length sp → length ks'' ≡ length ks' → length ls'' ≡ length ls' → Putting h ks ls text n ks'' ls'' sc'' sp'' r'' r.next (i + 1)
-      puts-on ks'' ls'' sc'' sp'' r'' w z d wk wl =
-          let q : book_of r'' ks'' ls'' ≡ added_each (e ∷ []) now = (is-sound r'' ks'' ls'' (added_each (inward after.k r.entry ∷ []) now) w.is).1 ∙ ap (λ x. added_each (x ∷ []) now) its-entry in
-          let m = (each_fits h.k h.c e (drop (i + 1) ts) now valid-on (sized-at text h.k n s at i v.reading l) (once-at text h.k n s at i v.reading l) fits_on).1 in
+      pub puts-on : (ks'' : List ℤ) (ls'' : List ℕ) (lt'' : Lists) (r'' : Head) → Became after ks'' ls'' (added_each (inward after.k r.0 ∷ []) now) r'' → Kept after.c lt lt'' → length ks'' ≡ length ks' → length ls'' ≡ length ls' → Putting h ks ls text n ks'' ls'' lt₀ lt'' r'' r.1.now (i + 1)
+      puts-on ks'' ls'' lt'' r'' w z wk wl =
+          let q : book_of r'' ks'' ls'' ≡ added_each (e ∷ []) now = (is-sound r'' ks'' ls'' (added_each (inward after.k r.0 ∷ []) now) w.is).1 ∙ ap (λ x. added_each (x ∷ []) now) its-entry in
+          let m = (each_fits h.k h.c e (drop (i + 1) ts) now valid-on (sized-at text h.k n s left i v.reading l) (once-at text h.k n s left i v.reading l) fits_on).1 in
           record {
-            reading = reads_on text h.k n s at i v.reading l r f;
-            became = record { is = subst (λ (x : Book). Is r'' ks'' ls'' x) (sym (is-sound r'' ks'' ls'' (added_each (inward after.k r.entry ∷ []) now) w.is).1) w.is; k = w.k ∙ v.became.k; c = w.c ∙ v.became.c };
-            goal = ap (added_each (drop (i + 1) ts)) q ∙ sym (each_first e (drop (i + 1) ts) now) ∙ ap (λ (x : List Entry). added_each x now) (sym (lines-on text h.k n s at i v.reading l)) ∙ v.goal;
+            reading = reads_on text h.k n s left i v.reading l r f;
+            became = record { is = subst (λ (x : Book). Is r'' ks'' ls'' x) (sym (is-sound r'' ks'' ls'' (added_each (inward after.k r.0 ∷ []) now) w.is).1) w.is; k = w.k ∙ v.became.k; c = w.c ∙ v.became.c };
+            goal = ap (added_each (drop (i + 1) ts)) q ∙ sym (each_first e (drop (i + 1) ts) now) ∙ ap (λ (x : List Entry). added_each x now) (sym (lines-on text h.k n s left i v.reading l)) ∙ v.goal;
             fits = subst (λ (x : Book). size x.tree + length (new_of (listing x.tree) (drop (i + 1) ts)) ≤ h.c) (sym q) m;
-            cleared = z ∙ ap (λ c. replicate c 0) v.became.c;
-            spare = d ∙ v.spare;
+            lent = kept-trans v.lent (subst (λ c. Kept c lt lt'') v.became.c z);
             wide = wk ∙ v.wide;
             long = wl ∙ v.long;
           }

@@ -6,7 +6,7 @@ use mathlib.Core.Option.{Option, none, some}
 use Prim.Native.Nat.{ℕ, ◌+◌, ◌*◌, ◌/◌, ◌≤◌, ◌<◌}
 use native.Mathlib.Omega.{arith}
 use native.Mathlib.Numerals.{add-one}
-use lib.ListN.{length, drop, replicate}
+use lib.ListN.{length, drop}
 use lib.IntN.{ℤ}
 use borrow.Author.Tests.{eqb-false, not-false}
 use Rattle.model.specs.Answer.{inward, outward}
@@ -26,13 +26,16 @@ use Rattle.model.proofs.Gates.{gate-none}
 use Rattle.model.proofs.Items.{entry_of_work}
 use Rattle.model.proofs.Sounds.{Is}
 use Rattle.cells.specs.Slots.{Room}
-use Rattle.weigh.specs.Items.{entry_at, work_of}
+use Rattle.weigh.specs.Items.{entry_at, item_of, work_of}
 use Rattle.weigh.specs.Sounds.{Sound}
-use Rattle.weigh.proofs.Begun.{entry-is, item-fits}
+use Rattle.weigh.proofs.Begun.{begins_item, entry-is, entry_item, item-fits}
 use Rattle.weigh.proofs.Held.{few-of, its, room-kept}
 use Rattle.weigh.proofs.Inward.{back_in}
 use Rattle.weigh.proofs.Judged.{first-right, first-wrong, works-end, works-on}
 use Rattle.weigh.proofs.Lately.{adds, adds-is, entry-long}
+use Rattle.mend.specs.Lists.{Blank, Kept}
+use Rattle.mend.specs.declared.lists.Lists.{Lists}
+use Rattle.mend.proofs.Lent.{kept-trans}
 use Rattle.desk.specs.Changes.{Became}
 
 -- ---- one item
@@ -45,7 +48,7 @@ a-strike : (w : Work) → adds w ≡ false → w ≡ striking (entry_of_work w)
 a-strike (adding e) q = let z : ◌≡◌ {A = ℕ} 0 1 = cc in absurd (omega arith)
 a-strike (striking e) q = refl
 
-module _ (h : Head) (ks : List ℤ) (ls : List ℕ) (p : Sound h ks ls) (xs : List ℤ) (i : ℕ) (f : i * (h.k + 1) + (h.k + 1) ≤ length xs) (e : Four) (es : e ≡ outward (entry_at h.k xs i)) where
+module _ (h : Head) (ks : List ℤ) (ls : List ℕ) (p : Sound h ks ls) (xs : List ℤ) (i : ℕ) (f : i * (h.k + 1) + (h.k + 1) ≤ length xs) (e : Four) (es : e ≡ outward (drop 1 (item_of h.k xs i))) where
   abbrev b : Book
   b = book_of h ks ls
 
@@ -53,11 +56,11 @@ module _ (h : Head) (ks : List ℤ) (ls : List ℕ) (p : Sound h ks ls) (xs : Li
   w = work_of h.k xs i
 
   enters : entry_of_work w ≡ inward h.k e
-  enters = entry-is h.k xs i ∙ sym (back_in h.k (entry_at h.k xs i) e (entry-long h.k xs i f) es)
+  enters = entry-is h.k xs i ∙ sym (back_in h.k (entry_at h.k xs i) e (entry-long h.k xs i f) (es ∙ ap outward (entry_item h.k i xs)))
 
-  module _ (g : wrong_with h.c w b ≡ none) (a : Bool) (an : a ≡ begins 1 (drop (i * (h.k + 1)) xs)) where
+  module _ (g : wrong_with h.c w b ≡ none) (a : Bool) (an : a ≡ begins 1 (item_of h.k xs i)) where
     adds-here : adds w ≡ a
-    adds-here = adds-is h.k (drop (i * (h.k + 1)) xs) ∙ sym an
+    adds-here = adds-is h.k (drop (i * (h.k + 1)) xs) ∙ sym (begins_item 1 h.k i xs) ∙ sym an
 
     module _ (t : a ≡ true) where
       adds-this : w ≡ adding (inward h.k e)
@@ -98,21 +101,20 @@ first-only C p w ws b q = go (wrong_with C w b) refl
     go none e = e
     go (some r) e = let s : ◌≡◌ {A = Option (ℕ × Refusal)} (some (p, r)) none = sym (first-wrong C p w ws b r e) ∙ q in let z : ◌≡◌ {A = ℕ} 0 1 = cc in absurd (omega arith)
 
-pub record Working (h : Head) (ks : List ℤ) (ls : List ℕ) (xs : List ℤ) (ks' : List ℤ) (ls' sc sp : List ℕ) (after : Head) (i : ℕ) : Type 0 where
+pub record Working (h : Head) (ks : List ℤ) (ls : List ℕ) (xs : List ℤ) (ks' : List ℤ) (ls' : List ℕ) (lt₀ lt : Lists) (after : Head) (i : ℕ) : Type 0 where
   pub low : i ≤ length xs / (h.k + 1)
   pub became : Became h ks' ls' (book_of after ks' ls') after
   pub goal : worked_all (drop i (works h.k xs)) (book_of after ks' ls') ≡ worked_all (works h.k xs) (book_of h ks ls)
   pub right : first_wrong_item h.c (i + 1) (drop i (works h.k xs)) (book_of after ks' ls') ≡ none
-  pub cleared : sc ≡ replicate h.c 0
-  pub spare : length sp ≡ h.c
+  pub lent : Kept h.c lt₀ lt
   pub wide : length ks' ≡ length ks
   pub long : length ls' ≡ length ls
 
 module _ (h : Head) (ks : List ℤ) (ls : List ℕ) (p : Sound h ks ls) (xs : List ℤ) where
-  pub works-first : (sc sp : List ℕ) → first_wrong_item h.c 1 (works h.k xs) (book_of h ks ls) ≡ none → sc ≡ replicate h.c 0 → length sp ≡ h.c → Working h ks ls xs ks ls sc sp h 0
-  works-first sc sp g z d = record { low = omega arith; became = record { is = its h ks ls p; k = refl; c = refl }; goal = refl; right = g; cleared = z; spare = d; wide = refl; long = refl }
+  pub works-first : (lt : Lists) → first_wrong_item h.c 1 (works h.k xs) (book_of h ks ls) ≡ none → Blank h.c lt → Working h ks ls xs ks ls lt lt h 0
+  works-first lt g z = record { low = omega arith; became = record { is = its h ks ls p; k = refl; c = refl }; goal = refl; right = g; lent = record { blank = z; scratch = refl; spare = refl }; wide = refl; long = refl }
 
-  module _ (ks' : List ℤ) (ls' sc sp : List ℕ) (after : Head) (i : ℕ) (v : Working h ks ls xs ks' ls' sc sp after i) where
+  module _ (ks' : List ℤ) (ls' : List ℕ) (lt₀ lt : Lists) (after : Head) (i : ℕ) (v : Working h ks ls xs ks' ls' lt₀ lt after i) where
     abbrev now : Book
     now = book_of after ks' ls'
 
@@ -138,11 +140,8 @@ module _ (h : Head) (ks : List ℤ) (ls : List ℕ) (p : Sound h ks ls) (xs : Li
       pub works-right : wrong_with after.c (work_of after.k xs i) now ≡ none
       works-right = ap (λ c. wrong_with c (work_of after.k xs i) now) v.became.c ∙ ap (λ x. wrong_with h.c x now) same-work ∙ right-here
 
-      pub works-lent : (sc ≡ replicate after.c 0) × (length sp ≡ after.c)
-      works-lent = (v.cleared ∙ ap (λ c. replicate c 0) (sym v.became.c), v.spare ∙ sym v.became.c)
-
-      pub works-next : (ks'' : List ℤ) (ls'' sc'' sp'' : List ℕ) (r : Head) → Became after ks'' ls'' (worked (work_of after.k xs i) now) r → sc'' ≡ replicate after.c 0 → length sp'' ≡ length sp → length ks'' ≡ length ks' → length ls'' ≡ length ls' → Working h ks ls xs ks'' ls'' sc'' sp'' r (i + 1)
-      works-next ks'' ls'' sc'' sp'' r y z d wk wl =
+      pub works-next : (ks'' : List ℤ) (ls'' : List ℕ) (lt'' : Lists) (r : Head) → Became after ks'' ls'' (worked (work_of after.k xs i) now) r → Kept after.c lt lt'' → length ks'' ≡ length ks' → length ls'' ≡ length ls' → Working h ks ls xs ks'' ls'' lt₀ lt'' r (i + 1)
+      works-next ks'' ls'' lt'' r y z wk wl =
           let w : Work = work_of h.k xs i in
           let m : book_of r ks'' ls'' ≡ worked (work_of after.k xs i) now = (is-sound r ks'' ls'' (worked (work_of after.k xs i) now) y.is).1 in
           let q : book_of r ks'' ls'' ≡ worked w now = m ∙ ap (λ x. worked x now) same-work in
@@ -151,8 +150,7 @@ module _ (h : Head) (ks : List ℤ) (ls : List ℕ) (p : Sound h ks ls) (xs : Li
             became = record { is = subst (λ (x : Book). Is r ks'' ls'' x) (sym m) y.is; k = y.k ∙ v.became.k; c = y.c ∙ v.became.c };
             goal = ap (worked_all others) q ∙ ap (λ ws. worked_all ws now) (sym (works-on h.k xs i l)) ∙ v.goal;
             right = ap (first_wrong_item h.c (i + 1 + 1) others) q ∙ ap (λ j. first_wrong_item h.c j others (worked w now)) (add-one (i + 1)) ∙ sym (first-right h.c (i + 1) w others now right-here) ∙ ap (λ ws. first_wrong_item h.c (i + 1) ws now) (sym (works-on h.k xs i l)) ∙ v.right;
-            cleared = z ∙ ap (λ c. replicate c 0) v.became.c;
-            spare = d ∙ v.spare;
+            lent = kept-trans v.lent (subst (λ c. Kept c lt lt'') v.became.c z);
             wide = wk ∙ v.wide;
             long = wl ∙ v.long;
           }

@@ -1,5 +1,6 @@
 // One entry added or struck in a pool that is known to be sound, so that a call which changes many judges it once.
-ghost use Rattle.std.specs.Prelude.{◌≡◌, true, false, ◌<◌, length, replicate};
+ghost use Rattle.std.specs.Prelude.{◌≡◌, true, false, ◌<◌, length};
+ghost use Rattle.mend.specs.Lists.{Blank, Kept};
 ghost use Rattle.model.specs.Answer.{inward};
 ghost use Rattle.model.specs.Ask.{has};
 ghost use Rattle.model.specs.Book.{added, struck};
@@ -8,6 +9,7 @@ ghost use Rattle.model.specs.Rebuild.{listing};
 ghost use Rattle.weigh.specs.Sounds.{Sound};
 ghost use Rattle.desk.specs.Changes.{Became};
 
+use mend::lists::Lists;
 use model::{Entry, Head, Shape};
 
 // Adds an entry that is not there to a pool that is not full; returns the head.
@@ -15,28 +17,24 @@ pub fn add_one(
     head: Head,
     keys: &mut [i64],
     links: &mut [usize],
-    scratch: &mut [usize],
-    spare: &mut [usize],
+    lists: &mut Lists<'_>,
     entry: Entry,
 ) -> Head
     requires sound { Sound head keys.old links.old × (head.n < head.c) }
     requires links_value { has (inward head.k entry) (listing (book_of head keys.old links.old).tree) ≡ false }
-    requires scratch_value { (scratch.old ≡ replicate head.c 0) × (length spare.old ≡ head.c) }
+    requires lists { Blank head.c lists.old }
     ensures pool { Became head keys.new links.new (added (inward head.k entry) (book_of head keys.old links.old)) result }
-    ensures scratch { scratch.new ≡ replicate head.c 0 }
+    ensures lists { Kept head.c lists.old lists.new }
 {
-    let k = head.k;
-    let c = head.c;
+    let shape = Shape::from(head);
     let s = head.free;
-    let n = head.n;
-    let free = cells::slot::claim(keys, links, Shape { k, c }, s, entry);
-    let root = alter::insert::insert(keys, links, Shape { k, c }, 0, head.root, s, scratch, spare);
+    let free = cells::slot::claim(keys, links, shape, s, entry);
+    let root = alter::insert::insert(keys, links, shape, 0, head.root, s, lists);
     Head {
-        k,
-        c,
         root,
         free,
-        n: n + 1,
+        n: head.n + 1,
+        ..head
     }
 }
 
@@ -45,36 +43,23 @@ pub fn strike_one(
     head: Head,
     keys: &mut [i64],
     links: &mut [usize],
-    scratch: &mut [usize],
-    spare: &mut [usize],
+    lists: &mut Lists<'_>,
     entry: Entry,
 ) -> Head
     requires sound { Sound head keys.old links.old }
     requires links_value { has (inward head.k entry) (listing (book_of head keys.old links.old).tree) ≡ true }
-    requires scratch_value { (scratch.old ≡ replicate head.c 0) × (length spare.old ≡ head.c) }
+    requires lists { Blank head.c lists.old }
     ensures pool { Became head keys.new links.new (struck (inward head.k entry) (book_of head keys.old links.old)) result }
-    ensures scratch { scratch.new ≡ replicate head.c 0 }
+    ensures lists { Kept head.c lists.old lists.new }
 {
-    let k = head.k;
-    let c = head.c;
-    let free = head.free;
-    let n = head.n;
-    let x = alter::strike::strike(
-        keys,
-        links,
-        Shape { k, c },
-        0,
-        head.root,
-        entry,
-        scratch,
-        spare,
-    );
-    cells::slot::release(keys, links, Shape { k, c }, x.freed, free);
+    let shape = Shape::from(head);
+    let x = alter::strike::strike(keys, links, shape, 0, head.root, entry, lists);
+    let freed = x.freed.unwrap();
+    cells::slot::release(keys, links, shape, freed, head.free);
     Head {
-        k,
-        c,
         root: x.root,
-        free: x.freed,
-        n: n - 1,
+        free: freed,
+        n: head.n - 1,
+        ..head
     }
 }

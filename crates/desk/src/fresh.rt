@@ -5,20 +5,15 @@ ghost use Rattle.desk.specs.Fresh.{Chained};
 pub fn clear_numbers(keys: &mut [i64])
     ensures { keys.new ≡ replicate (length keys.old) (pos 0) }
 {
-    let mut i: usize = 0;
-    while i < keys.len() {
-        keys[i] = 0;
-        i += 1;
-    }
+    keys.fill(0);
 }
 
 pub fn chain_up(links: &mut [usize], c: usize)
     requires { (1 ≤ c) × ((c ≤ 4096) × (length links.old ≡ 3 * c)) }
     ensures { (length links.new ≡ 3 * c) × Chained links.new c c }
 {
-    let mut s: usize = 0;
-    while s < c {
-        s += 1;
+    for before in 0..c {
+        let s = before + 1;
         let next = if s == c { 0 } else { s + 1 };
         cells::slot::put_links(links, s, next, 0, 0);
     }

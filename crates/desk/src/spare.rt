@@ -1,4 +1,4 @@
-// The lists of slots that a call needs beside what it is lent: short ones for a small pool, since clearing long ones would be most of its work.
+// The list of slots that a call needs beside what it is lent.
 ghost use Rattle.std.specs.Prelude.{◌≡◌, true, false, ◌+◌, ◌≤◌, ◌<◌, length, replicate};
 ghost use Rattle.std.proofs.Math.Option.{none};
 ghost use Rattle.model.specs.Answer.{inward};
@@ -17,8 +17,9 @@ ghost use Rattle.desk.specs.Changes.{Became};
 use crate::change::{add_one, strike_one};
 use crate::taking::put_all;
 use crate::working::work_all;
+use mend::lists::Lists;
 use model::{Entry, Head};
-use weigh::pool::{FEW, MOST};
+use weigh::with_lists;
 
 // Adds an entry that is not there to a pool that is not full; returns the head.
 pub fn add(
@@ -34,13 +35,7 @@ pub fn add(
     ensures pool { Became head keys.new links.new (added (inward head.k entry) (book_of head keys.old links.old)) result }
     ensures scratch { scratch.new ≡ replicate head.c 0 }
 {
-    let c = head.c;
-    if c <= FEW {
-        let mut spare = [0usize; FEW];
-        return add_one(head, keys, links, scratch, &mut spare[..c], entry);
-    }
-    let mut spare = [0usize; MOST];
-    add_one(head, keys, links, scratch, &mut spare[..c], entry)
+    with_lists!(head.c; spare; add_one(head, keys, links, &mut Lists { scratch, spare }, entry))
 }
 
 // Strikes an entry that is there; returns the head.
@@ -57,13 +52,7 @@ pub fn strike(
     ensures pool { Became head keys.new links.new (struck (inward head.k entry) (book_of head keys.old links.old)) result }
     ensures scratch { scratch.new ≡ replicate head.c 0 }
 {
-    let c = head.c;
-    if c <= FEW {
-        let mut spare = [0usize; FEW];
-        return strike_one(head, keys, links, scratch, &mut spare[..c], entry);
-    }
-    let mut spare = [0usize; MOST];
-    strike_one(head, keys, links, scratch, &mut spare[..c], entry)
+    with_lists!(head.c; spare; strike_one(head, keys, links, &mut Lists { scratch, spare }, entry))
 }
 
 // Adds, in text order, what is not yet there; returns the head.
@@ -81,13 +70,7 @@ pub fn take_in(
     ensures pool { Became head keys.new links.new (added_all (new_of (listing (book_of head keys.old links.old).tree) (entries_in (parse text.now))) (book_of head keys.old links.old)) result }
     ensures scratch { scratch.new ≡ replicate head.c 0 }
 {
-    let c = head.c;
-    if c <= FEW {
-        let mut spare = [0usize; FEW];
-        return put_all(head, keys, links, scratch, &mut spare[..c], text, lines);
-    }
-    let mut spare = [0usize; MOST];
-    put_all(head, keys, links, scratch, &mut spare[..c], text, lines)
+    with_lists!(head.c; spare; put_all(head, keys, links, &mut Lists { scratch, spare }, text, lines))
 }
 
 // Works every item of a tray, where none is wrong; returns the head.
@@ -104,11 +87,5 @@ pub fn work(
     ensures pool { Became head keys.new links.new (worked_all (works head.k items.now) (book_of head keys.old links.old)) result }
     ensures scratch { scratch.new ≡ replicate head.c 0 }
 {
-    let c = head.c;
-    if c <= FEW {
-        let mut spare = [0usize; FEW];
-        return work_all(head, keys, links, scratch, &mut spare[..c], items);
-    }
-    let mut spare = [0usize; MOST];
-    work_all(head, keys, links, scratch, &mut spare[..c], items)
+    with_lists!(head.c; spare; work_all(head, keys, links, &mut Lists { scratch, spare }, items))
 }

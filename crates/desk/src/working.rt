@@ -1,6 +1,7 @@
 // The items of a tray worked in turn, where none of them is wrong.
-ghost use Rattle.std.specs.Prelude.{◌≡◌, ◌+◌, ◌*◌, ◌≤◌, length, replicate};
+ghost use Rattle.std.specs.Prelude.{◌≡◌, ◌+◌, ◌*◌, ◌≤◌, length};
 ghost use Rattle.std.proofs.Math.Option.{none};
+ghost use Rattle.mend.specs.Lists.{Blank, Kept};
 ghost use Rattle.model.specs.Laws.{first_wrong_item, worked, worked_all, wrong_with};
 ghost use Rattle.model.specs.Pool.{book_of};
 ghost use Rattle.model.specs.Tray.{works};
@@ -9,31 +10,32 @@ ghost use Rattle.weigh.specs.Sounds.{Sound};
 ghost use Rattle.desk.specs.Changes.{Became};
 
 use crate::change::{add_one, strike_one};
+use mend::lists::Lists;
 use model::Head;
-use weigh::items::{adds, entry_in};
+use weigh::items::{adds, entry_in, item_at};
 
 // Works item i, counted from 0, which is not wrong; returns the head.
 pub fn work_one(
     head: Head,
     keys: &mut [i64],
     links: &mut [usize],
-    scratch: &mut [usize],
-    spare: &mut [usize],
+    lists: &mut Lists<'_>,
     items: &[i64],
     i: usize,
 ) -> Head
     requires sound { Sound head keys.old links.old × (i * (head.k + 1) + (head.k + 1) ≤ length items.now) }
     requires links_value { wrong_with head.c (work_of head.k items.now i) (book_of head keys.old links.old) ≡ none }
-    requires scratch_value { (scratch.old ≡ replicate head.c 0) × (length spare.old ≡ head.c) }
+    requires lists { Blank head.c lists.old }
     ensures pool { Became head keys.new links.new (worked (work_of head.k items.now i) (book_of head keys.old links.old)) result }
-    ensures scratch { scratch.new ≡ replicate head.c 0 }
+    ensures lists { Kept head.c lists.old lists.new }
 {
-    let k = head.k;
-    let e = entry_in(items, k, i);
-    if adds(items, k, i) {
-        return add_one(head, keys, links, scratch, spare, e);
+    let item = item_at(items, head.k, i);
+    let e = entry_in(item);
+    if adds(item) {
+        add_one(head, keys, links, lists, e)
+    } else {
+        strike_one(head, keys, links, lists, e)
     }
-    strike_one(head, keys, links, scratch, spare, e)
 }
 
 // Works every item; returns the head.
@@ -41,22 +43,19 @@ pub fn work_all(
     head: Head,
     keys: &mut [i64],
     links: &mut [usize],
-    scratch: &mut [usize],
-    spare: &mut [usize],
+    lists: &mut Lists<'_>,
     items: &[i64],
 ) -> Head
     requires sound { Sound head keys.old links.old }
     requires links_value { first_wrong_item head.c 1 (works head.k items.now) (book_of head keys.old links.old) ≡ none }
-    requires scratch_value { (scratch.old ≡ replicate head.c 0) × (length spare.old ≡ head.c) }
+    requires lists { Blank head.c lists.old }
     ensures pool { Became head keys.new links.new (worked_all (works head.k items.now) (book_of head keys.old links.old)) result }
-    ensures scratch { scratch.new ≡ replicate head.c 0 }
+    ensures lists { Kept head.c lists.old lists.new }
 {
     let many = items.len() / (head.k + 1);
     let mut after = head;
-    let mut i: usize = 0;
-    while i < many {
-        after = work_one(after, keys, links, scratch, spare, items, i);
-        i += 1;
+    for i in 0..many {
+        after = work_one(after, keys, links, lists, items, i);
     }
     after
 }

@@ -1,10 +1,11 @@
 // Whether a bound holds a number, and a box an entry.
-ghost use Rattle.std.specs.Prelude.{◌≡◌, ◌≤◌, length};
+ghost use Rattle.std.specs.Prelude.{◌≡◌};
 ghost use Rattle.model.specs.Ask.{holds, in_box};
 
 use model::Bound;
 
 // Whether a bound holds a number, ends included.
+#[tactic(auto, using(crate::proofs::Boxes::le_back), unfolding(model::specs::Ask::holds))]
 pub fn within(b: Bound, x: i64) -> bool
     ensures { result ≡ holds b x }
 {
@@ -12,22 +13,18 @@ pub fn within(b: Bound, x: i64) -> bool
         Bound::Free => true,
         Bound::AtLeast(lo) => lo <= x,
         Bound::AtMost(hi) => x <= hi,
-        Bound::Between(lo, hi) => { if lo <= x { x <= hi } else { false } }
+        Bound::Between(lo, hi) => lo <= x && x <= hi,
     }
 }
 
-// Whether the bounds hold the numbers of a part.
+// Whether the bounds hold the numbers of a part; bounds and numbers beyond the shorter of the two are ignored.
 pub fn inside(bounds: [Bound; 4], part: &[i64]) -> bool
-    requires { length part.now ≤ 4 }
     ensures { result ≡ in_box bounds part.now }
 {
-    let mut i: usize = 0;
-    while i < part.len() {
-        let b = bounds[i];
-        if !within(b, part[i]) {
+    for (b, x) in bounds.iter().zip(part) {
+        if !within(*b, *x) {
             return false;
         }
-        i += 1;
     }
     true
 }

@@ -1,14 +1,12 @@
 -- Two heights against each other, and how high a tree in a pool can be.
-use mathlib.Core.Path.{◌≡◌, refl, sym, ap₂, ◌∙◌}
-use mathlib.Core.Bool.{Bool, true, false}
+use mathlib.Core.Path.{◌≡◌, sym, ap₂, ◌∙◌}
+use mathlib.Core.Bool.{Bool}
 use mathlib.Core.List.{List, ◌∷◌}
-use Prim.Native.Nat.{ℕ, suc, ◌+◌, ◌*◌, ◌≤◌, ◌<◌}
+use Prim.Native.Nat.{ℕ, ◌*◌, ◌≤◌}
 use native.Mathlib.Decide.{dec_le}
 use native.Mathlib.Omega.{arith}
-use lib.Dec.{leb}
 use lib.ListN.{length, length-append}
 use lib.IntN.{ℤ}
-use borrow.Author.Tests.{le-leb, lt-leb}
 use Rattle.model.specs.Tree.{Tree, nil, node, height, items, even}
 use Rattle.model.proofs.Lists.{Every, OnceEach, every-join, perm-length}
 use Rattle.model.proofs.Crowd.{InPool, crowd, up-length}
@@ -16,20 +14,9 @@ use Rattle.model.proofs.Strikes.{slots, slots-append}
 use Rattle.cells.specs.Slots.{left_at, right_at}
 use Rattle.cells.specs.Memory.{Rep}
 
--- ---- `is_even`
-
-pub uneven-low : (a b : ℕ) → a + 1 < b → false ≡ even a b
-uneven-low a b h = let e : leb b (suc a) ≡ false = lt-leb b (suc a) (omega arith) in let f : leb a (suc b) ≡ true = le-leb a (suc b) (omega arith) in rw (e, f) refl
-
-pub uneven-high : (a b : ℕ) → b + 1 < a → false ≡ even a b
-uneven-high a b h = let e : leb a (suc b) ≡ false = lt-leb a (suc b) (omega arith) in rw e refl
-
-pub evened : (a b : ℕ) → b ≤ a + 1 → a ≤ b + 1 → true ≡ even a b
-evened a b g h = let e : leb b (suc a) ≡ true = le-leb b (suc a) (omega arith) in let f : leb a (suc b) ≡ true = le-leb a (suc b) (omega arith) in rw (e, f) refl
-
 -- the test was on two numbers that are these heights
-pub even-told : (a b x y : ℕ) (o r : Bool) → a ≡ x → b ≡ y → r ≡ even a b → r ≡ o → o ≡ even x y
-even-told a b x y o r ea eb e q = sym q ∙ e ∙ ap₂ even ea eb
+pub even-told : {a b x y : ℕ} {o r : Bool} → a ≡ x → b ≡ y → r ≡ even a b → r ≡ o → o ≡ even x y
+even-told ea eb e q = sym q ∙ e ∙ ap₂ even ea eb
 
 -- ---- the height of a tree in a pool
 

@@ -1,5 +1,6 @@
 -- Laws of mending.
 pub mod Heights
+pub mod Lent
 pub mod Littles
 pub mod Mending
 pub mod Sided

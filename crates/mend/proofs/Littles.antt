@@ -1,6 +1,5 @@
 -- What `two_at` and `three_at` need: the slots of a tree of two or three, by which children are missing.
 use mathlib.Core.Path.{◌≡◌, refl, sym, ap, ap₂, ◌∙◌}
-use mathlib.Core.Logic.{inl, inr, ⊎_elim}
 use mathlib.Core.List.{List, [], ◌∷◌, ◌++◌}
 use Prim.Native.Nat.{ℕ, suc, ◌≤◌, ◌*◌, max}
 use native.Mathlib.Omega.{arith}
@@ -45,66 +44,63 @@ one-slot K ks ls s u p e =
 
 -- ---- `two_at`
 
-module _ (ls : List ℕ) (s h : ℕ) (eh : h ≡ tall ls s) (e : h ≡ 2) where
-  some : ¬ (s ≡ 0)
-  some z = let a = tall-zero ls s z in omega arith
+some : (ls : List ℕ) (s h : ℕ) → h ≡ tall ls s → h ≡ 2 → ¬ (s ≡ 0)
+some ls s h eh e z = let a = tall-zero ls s z in omega arith
 
+module _ {ls : List ℕ} {s h : ℕ} (eh : h ≡ tall ls s) (e : h ≡ 2) where
   pub two-slot : Lying ls s → Slot (length ls) s
-  two-slot y = (opened y.K y.ks ls s y.tree y.rep some).slot
+  two-slot y = (opened y.K y.ks ls s y.tree y.rep (some ls s h eh e)).slot
 
   -- one child is missing, so the other one is a leaf
-  module _ (l r : ℕ) (el : l ≡ left_at ls s) (er : r ≡ right_at ls s) (none : Type 0) where
-    pub two-right : l ≡ 0 → Listed ls s none (s ∷ r ∷ [])
+  module _ {l r : ℕ} (el : l ≡ left_at ls s) (er : r ≡ right_at ls s) where
+    pub two-right : l ≡ 0 → Listed ls s (s ∷ r ∷ [])
     two-right z = record {
       at = λ K ks u p.
-          let o = opened K ks ls s u p some in
-          let t = high K ks ls s u p some in
+          let o = opened K ks ls s u p (some ls s h eh e) in
+          let t = high K ks ls s u p (some ls s h eh e) in
           let a : o.l ≡ nil = open-nil K ks ls (left_at ls s) o.l o.left (sym el ∙ z) in
           let b : height o.l ≡ 0 = ap height a in
-          inr (around K ks ls s u p some [] (r ∷ []) (ap slots a) (one-slot K ks ls r o.r (placed K ks ls (right_at ls s) r o.r er o.right) (omega arith)));
+          around K ks ls s u p (some ls s h eh e) [] (r ∷ []) (ap slots a) (one-slot K ks ls r o.r (placed K ks ls (right_at ls s) r o.r er o.right) (omega arith));
     }
 
-    pub two-left : r ≡ 0 → Listed ls s none (l ∷ s ∷ [])
+    pub two-left : r ≡ 0 → Listed ls s (l ∷ s ∷ [])
     two-left z = record {
       at = λ K ks u p.
-          let o = opened K ks ls s u p some in
-          let t = high K ks ls s u p some in
+          let o = opened K ks ls s u p (some ls s h eh e) in
+          let t = high K ks ls s u p (some ls s h eh e) in
           let a : o.r ≡ nil = open-nil K ks ls (right_at ls s) o.r o.right (sym er ∙ z) in
           let b : height o.r ≡ 0 = ap height a in
-          inr (around K ks ls s u p some (l ∷ []) [] (one-slot K ks ls l o.l (placed K ks ls (left_at ls s) l o.l el o.left) (omega arith)) (ap slots a));
+          around K ks ls s u p (some ls s h eh e) (l ∷ []) [] (one-slot K ks ls l o.l (placed K ks ls (left_at ls s) l o.l el o.left) (omega arith)) (ap slots a);
     }
 
-pub lying-bound : (ls : List ℕ) (s : ℕ) → Lying ls s → 3 * s ≤ length ls
-lying-bound ls s y = rep-bound y.K y.ks ls s y.tree y.rep
-
-pub not_listed : (ls : List ℕ) (s : ℕ) (none : Type 0) (ss : List ℕ) → none → Listed ls s none ss
-not_listed ls s none ss h = record { at = λ K ks u p. inl h }
+pub lying-bound : {ls : List ℕ} {s : ℕ} → Lying ls s → 3 * s ≤ length ls
+lying-bound {ls} {s} y = rep-bound y.K y.ks ls s y.tree y.rep
 
 -- ---- `three_at`
 
-module _ (ls : List ℕ) (s l r : ℕ) (here : Slot (length ls) s) (el : l ≡ left_at ls s) (er : r ≡ right_at ls s) where
-  slot : ¬ (s ≡ 0)
-  slot z = let a : 1 ≤ s = here.some in omega arith
+slot : (n s : ℕ) → Slot n s → ¬ (s ≡ 0)
+slot n s here z = let a : 1 ≤ s = here.some in omega arith
 
+module _ {ls : List ℕ} {s l r : ℕ} (here : Slot (length ls) s) (el : l ≡ left_at ls s) (er : r ≡ right_at ls s) where
   pub left-lying : Lying ls s → Lying ls l
-  left-lying y = let o = opened y.K y.ks ls s y.tree y.rep slot in record { K = y.K; ks = y.ks; tree = o.l; rep = placed y.K y.ks ls (left_at ls s) l o.l el o.left }
+  left-lying y = let o = opened y.K y.ks ls s y.tree y.rep (slot (length ls) s here) in record { K = y.K; ks = y.ks; tree = o.l; rep = placed y.K y.ks ls (left_at ls s) l o.l el o.left }
 
   pub right-lying : Lying ls s → Lying ls r
-  right-lying y = let o = opened y.K y.ks ls s y.tree y.rep slot in record { K = y.K; ks = y.ks; tree = o.r; rep = placed y.K y.ks ls (right_at ls s) r o.r er o.right }
+  right-lying y = let o = opened y.K y.ks ls s y.tree y.rep (slot (length ls) s here) in record { K = y.K; ks = y.ks; tree = o.r; rep = placed y.K y.ks ls (right_at ls s) r o.r er o.right }
 
-  module _ (a b : ℕ) where
-    pub three-right : l ≡ 0 → Listed ls r ((a ≡ 0) × (b ≡ 0)) (a ∷ b ∷ []) → Listed ls s (a ≡ 0) (s ∷ a ∷ b ∷ [])
+  module _ {a b : ℕ} where
+    pub three-right : l ≡ 0 → Listed ls r (a ∷ b ∷ []) → Listed ls s (s ∷ a ∷ b ∷ [])
     three-right z two = record {
       at = λ K ks u p.
-          let o = opened K ks ls s u p slot in
+          let o = opened K ks ls s u p (slot (length ls) s here) in
           let e : o.l ≡ nil = open-nil K ks ls (left_at ls s) o.l o.left (sym el ∙ z) in
-          ⊎_elim (λ n. inl n.0) (λ q. inr (around K ks ls s u p slot [] (a ∷ b ∷ []) (ap slots e) q)) (two.at K ks o.r (placed K ks ls (right_at ls s) r o.r er o.right));
+          around K ks ls s u p (slot (length ls) s here) [] (a ∷ b ∷ []) (ap slots e) (two.at K ks o.r (placed K ks ls (right_at ls s) r o.r er o.right));
     }
 
-    pub three-left : r ≡ 0 → Listed ls l ((a ≡ 0) × (b ≡ 0)) (a ∷ b ∷ []) → Listed ls s (b ≡ 0) (a ∷ b ∷ s ∷ [])
+    pub three-left : r ≡ 0 → Listed ls l (a ∷ b ∷ []) → Listed ls s (a ∷ b ∷ s ∷ [])
     three-left z two = record {
       at = λ K ks u p.
-          let o = opened K ks ls s u p slot in
+          let o = opened K ks ls s u p (slot (length ls) s here) in
           let e : o.r ≡ nil = open-nil K ks ls (right_at ls s) o.r o.right (sym er ∙ z) in
-          ⊎_elim (λ n. inl n.1) (λ q. inr (around K ks ls s u p slot (a ∷ b ∷ []) [] q (ap slots e))) (two.at K ks o.l (placed K ks ls (left_at ls s) l o.l el o.left));
+          around K ks ls s u p (slot (length ls) s here) (a ∷ b ∷ []) [] (two.at K ks o.l (placed K ks ls (left_at ls s) l o.l el o.left)) (ap slots e);
     }

@@ -8,6 +8,7 @@ use native.Mathlib.Omega.{arith}
 use lib.ListN.{length, take, drop, replicate, length-append, length-replicate, replicate-append-replicate}
 use lib.Seq.{take_at, drop_at, length-take-le}
 use lib.IntN.{ℤ}
+use Rattle.std.proofs.lemmas.List.{drop-replicate}
 use Rattle.model.specs.Add.{mend}
 use Rattle.model.specs.Entry.{cut_field}
 use Rattle.model.specs.Rebuild.{rebuild}
@@ -27,27 +28,14 @@ use Rattle.mend.specs.Listings.{Lying, Listed}
 use Rattle.seek.specs.Sides.{item_in}
 use Rattle.mend.proofs.Heights.{few, low-tree, rep-pool}
 
-pub scratch-long : (C : ℕ) (sc : List ℕ) → sc ≡ replicate C 0 → length sc ≡ C
-scratch-long C sc e = ap length e ∙ length-replicate C 0
+pub scratch-long : {C : ℕ} {sc : List ℕ} → sc ≡ replicate C 0 → length sc ≡ C
+scratch-long {C} e = ap length e ∙ length-replicate C 0
 
--- a list of which the front was replaced and then cleared, and which was 0 behind it
-cleared : (C n : ℕ) (sc sc₁ a z : List ℕ) → n ≤ C → n ≤ length sc₁ → drop n sc₁ ≡ drop n sc → sc ≡ replicate C 0 → length a ≡ length (take n sc₁) → z ≡ replicate (length (take n (a ++ drop n sc₁))) 0 → z ++ drop n (a ++ drop n sc₁) ≡ replicate C 0
-cleared C n sc sc₁ a z le long same e₀ ea ez = rw (front, back) (replicate-append-replicate n (C - n) 0 ∙ ap (λ (x : ℕ). replicate x 0) joins)
-  where
-    joins : n + (C - n) ≡ C
-    joins = omega arith
-
-    la : length a ≡ n
-    la = ea ∙ length-take-le n sc₁ long
-
-    front : z ≡ replicate n 0
-    front = ez ∙ ap (λ (x : ℕ). replicate x 0) (ap length (take_at a (drop n sc₁) n la) ∙ la)
-
-    zeros : ◌≡◌ {A = List ℕ} (replicate C 0) (replicate n 0 ++ replicate (C - n) 0)
-    zeros = ap (λ (x : ℕ). replicate x 0) (sym joins) ∙ sym (replicate-append-replicate n (C - n) 0)
-
-    back : drop n (a ++ drop n sc₁) ≡ replicate (C - n) 0
-    back = drop_at a (drop n sc₁) n la ∙ same ∙ ap (drop n) (e₀ ∙ zeros) ∙ drop_at (replicate n 0) (replicate (C - n) 0) n (length-replicate n 0)
+-- a list of which the front was cleared, and which was 0 behind it
+cleared : (C n : ℕ) (sc sc₁ z : List ℕ) → n ≤ C → drop n sc₁ ≡ drop n sc → sc ≡ replicate C 0 → z ≡ replicate n 0 → z ++ drop n sc₁ ≡ replicate C 0
+cleared C n sc sc₁ z le same e₀ ez =
+    let joins : n + (C - n) ≡ C = omega arith in
+    rw (ez, same, e₀, drop-replicate) (replicate-append-replicate n (C - n) 0 ∙ ap (λ (x : ℕ). replicate x 0) joins)
 
 mend-kept : (t : ℕ) (i : Item) (l r : Tree) → even (height l) (height r) ≡ true → mend t i l r ≡ node i l r
 unfolding mend
@@ -57,7 +45,7 @@ mend-rebuilt : (t : ℕ) (i : Item) (l r : Tree) → even (height l) (height r) 
 unfolding mend
 mend-rebuilt t i l r e = rw (e, mend) refl
 
-module _ (S : Shape) (ks : List ℤ) (ls : List ℕ) (s l r : ℕ) (room : Room S (length ks) (length ls)) (m : Mendable S.k ks ls s l r) where
+module _ {S : Shape} {ks : List ℤ} {ls : List ℕ} {s l r : ℕ} (room : Room S (length ks) (length ls)) (m : Mendable S.k ks ls s l r) where
   abbrev whole : List ℕ
   whole = slots m.low ++ (s ∷ slots m.high)
 
@@ -116,7 +104,7 @@ module _ (S : Shape) (ks : List ℤ) (ls : List ℕ) (s l r : ℕ) (room : Room 
   same-even o e = rw (← tall-rep S.k ks ls l m.low m.left, ← tall-rep S.k ks ls r m.high m.right) (sym e)
 
   -- s was linked to l and r
-  module _ (ls₁ : List ℕ) (e₁ : length ls₁ ≡ length ls) (p : Put ls ls₁ s l r (suc (max (tall ls l) (tall ls r)))) where
+  module _ {ls₁ : List ℕ} (e₁ : length ls₁ ≡ length ls) (p : Put ls ls₁ s l r (suc (max (tall ls l) (tall ls r)))) where
     linked : Rep S.k ks ls₁ s (node (item_in S.k ks s) m.low m.high)
     linked = joined S.k ks ls ls₁ (item_in S.k ks s) l r m.low m.high e₁ m.here refl p m.left m.right apart.not_left apart.not_right
 
@@ -132,8 +120,8 @@ module _ (S : Shape) (ks : List ℤ) (ls : List ℕ) (s l r : ℕ) (room : Room 
         here : (t : ℕ) → cut_field S.k t ≡ c → Rep S.k ks ls₁ s (mend t (item_in S.k ks s) m.low m.high)
         here t h = rw (mend-kept t (item_in S.k ks s) m.low m.high (same-even true ev)) linked
 
-    pub mended-rebuilt : (ls₂ xs : List ℕ) (c x : ℕ) → xs ≡ slots m.low ++ (s ∷ slots m.high) → false ≡ even (tall ls l) (tall ls r) → Rebuilt S.k ks c ls₁ ls₂ xs x → Mended S.k ks ls ls₂ c s l r x
-    mended-rebuilt ls₂ xs c x all ev b = mended-of ls₂ c x here (frame-trans S.k ks ks ks ls ls₁ ls₂ (s ∷ []) xs (p.others S.k ks) b.frame whole only-top (λ j i. rw all at i))
+    pub mended-rebuilt : {ls₂ xs : List ℕ} {c x : ℕ} → xs ≡ slots m.low ++ (s ∷ slots m.high) → false ≡ even (tall ls l) (tall ls r) → Rebuilt S.k ks c ls₁ ls₂ xs x → Mended S.k ks ls ls₂ c s l r x
+    mended-rebuilt {ls₂} {xs} {c} {x} all ev b = mended-of ls₂ c x here (frame-trans S.k ks ks ks ls ls₁ ls₂ (s ∷ []) xs (p.others S.k ks) b.frame whole only-top (λ j i. rw all at i))
       where
         same : items_at S.k ks xs ≡ items m.low ++ (item_in S.k ks s ∷ items m.high)
         same = ap (items_at S.k ks) (all ∙ sym top-slots) ∙ items-held S.k ks ls₁ s top linked
@@ -145,9 +133,9 @@ module _ (S : Shape) (ks : List ℤ) (ls : List ℕ) (s l r : ℕ) (room : Room 
     lying = record { K = S.k; ks = ks; tree = top; rep = linked }
 
     -- three slots were read off the links
-    module _ (x y z : ℕ) (f : Listed ls₁ s (y ≡ 0) (x ∷ y ∷ z ∷ [])) (some : 0 < y) where
+    module _ {x y z : ℕ} (f : Listed ls₁ s (x ∷ y ∷ z ∷ [])) where
       pub three-all : x ∷ y ∷ z ∷ [] ≡ slots m.low ++ (s ∷ slots m.high)
-      three-all = ⊎_elim (λ e. absurd (omega arith)) (λ e. sym e ∙ top-slots) (f.at S.k ks top linked)
+      three-all = sym (f.at S.k ks top linked) ∙ top-slots
 
       pub three-chosen : Chosen S.c (x ∷ y ∷ z ∷ [])
       three-chosen = rw three-all chosen
@@ -156,7 +144,7 @@ module _ (S : Shape) (ks : List ℤ) (ls : List ℕ) (s l r : ℕ) (room : Room 
     fitting n h = record { K = S.k; ks = ks; tree = top; rep = linked; enough = let a = ap length top-slots in let b = not-many in omega arith }
 
     -- the slots lie in front of the scratch
-    module _ (sc sc₁ : List ℕ) (n : ℕ) (ns : length sc ≡ S.c) (g : Gathered ls₁ sc sc₁ s 0 n) where
+    module _ {sc sc₁ : List ℕ} {n : ℕ} (ns : length sc ≡ S.c) (g : Gathered ls₁ sc sc₁ s 0 n) where
       many : n ≡ length (slots m.low ++ (s ∷ slots m.high))
       many = let a : n ≡ 0 + length (slots top) = g.next S.k ks top linked in let b = ap length top-slots in omega arith
 
@@ -174,6 +162,12 @@ module _ (S : Shape) (ks : List ℤ) (ls : List ℕ) (s l r : ℕ) (room : Room 
       pub front : take n sc₁ ≡ slots m.low ++ (s ∷ slots m.high)
       front = ap (take n) filled ∙ take_at whole (drop n sc) n (sym many)
 
+      pub front-long : length (take n sc₁) ≡ n
+      front-long = length-take-le n sc₁ fits-scratch
+
+      pub spare-front : (sp : List ℕ) → length sp ≡ S.c → length (take n sp) ≡ n
+      spare-front sp e = let a = in-scratch in length-take-le n sp (omega arith)
+
       behind : drop n sc₁ ≡ drop n sc
       behind = ap (drop n) filled ∙ drop_at whole (drop n sc) n (sym many)
 
@@ -181,5 +175,5 @@ module _ (S : Shape) (ks : List ℤ) (ls : List ℕ) (s l r : ℕ) (room : Room 
       chosen-front = rw front chosen
 
       -- what the rebuild left in front is cleared; behind it all is 0 as before
-      pub scratch-clear : (a z : List ℕ) → sc ≡ replicate S.c 0 → length a ≡ length (take n sc₁) → z ≡ replicate (length (take n (a ++ drop n sc₁))) 0 → z ++ drop n (a ++ drop n sc₁) ≡ replicate S.c 0
-      scratch-clear a z e₀ ea ez = cleared S.c n sc sc₁ a z in-scratch fits-scratch behind e₀ ea ez
+      pub scratch-clear : (a z : List ℕ) → sc ≡ replicate S.c 0 → length a ≡ length (take n sc₁) → z ≡ replicate (length a) 0 → z ++ drop n sc₁ ≡ replicate S.c 0
+      scratch-clear a z e₀ ea ez = cleared S.c n sc sc₁ z in-scratch behind e₀ (ez ∙ ap (λ (x : ℕ). replicate x 0) (ea ∙ front-long))

@@ -12,7 +12,7 @@ use Rattle.model.proofs.Strikes.{slots, slots-append}
 use Rattle.cells.specs.Slots.{left_at, right_at, tall, Slot}
 use Rattle.cells.specs.Memory.{Rep, Same}
 use Rattle.cells.proofs.Reps.{tall-rep}
-use Rattle.mend.specs.Mends.{Mendable, Mended, MendableOn, MendedOn}
+use Rattle.mend.specs.Mends.{Mended, MendedOn}
 use Rattle.seek.specs.Sides.{item_in, child_at, other_of, on_side}
 use Rattle.seek.specs.declared.side.Side.{Side}
 use Rattle.seek.specs.declared.side.Side.TheVariants.{Left, Right}
@@ -68,18 +68,8 @@ child-same K ks ks' ls ls' s Right h = h.right
 
 -- ---- `mend_on`: the new child on the left, and on the right
 
-pub mendable-left : (K : ℕ) (ks : List ℤ) (ls : List ℕ) (s : ℕ) (side : Side) (child r : ℕ) → side ≡ Left → MendableOn K ks ls s side child → r ≡ right_at ls s → Mendable K ks ls s child r
-mendable-left K ks ls s Left child r q m e = record { low = m.new; high = m.old; left = m.child_rep; right = rw e m.other_rep; here = m.here; once = m.once }
-mendable-left K ks ls s Right child r q m e = absurd (let z : ◌≡◌ {A = ℕ} 0 1 = cc in omega arith)
+pub mended-left : {K : ℕ} {ks : List ℤ} {ls ls' : List ℕ} {c s : ℕ} {side : Side} {child r x : ℕ} → side ≡ Left → r ≡ right_at ls s → Mended K ks ls ls' c s child r x → MendedOn K ks ls ls' c s side child x
+mended-left q e m = rw q (record { rep = λ t h u w a b. m.rep t h u w a (rw e b); frame = λ u w a b. m.frame u w a (rw e b) })
 
-pub mendable-right : (K : ℕ) (ks : List ℤ) (ls : List ℕ) (s : ℕ) (side : Side) (child l : ℕ) → side ≡ Right → MendableOn K ks ls s side child → l ≡ left_at ls s → Mendable K ks ls s l child
-mendable-right K ks ls s Left child l q m e = absurd (let z : ◌≡◌ {A = ℕ} 0 1 = cc in omega arith)
-mendable-right K ks ls s Right child l q m e = record { low = m.old; high = m.new; left = rw e m.other_rep; right = m.child_rep; here = m.here; once = m.once }
-
-pub mended-left : (K : ℕ) (ks : List ℤ) (ls ls' : List ℕ) (c s : ℕ) (side : Side) (child r x : ℕ) → side ≡ Left → r ≡ right_at ls s → Mended K ks ls ls' c s child r x → MendedOn K ks ls ls' c s side child x
-mended-left K ks ls ls' c s Left child r x q e m = record { rep = λ t h u w a b. m.rep t h u w a (rw e b); frame = λ u w a b. m.frame u w a (rw e b) }
-mended-left K ks ls ls' c s Right child r x q e m = absurd (let z : ◌≡◌ {A = ℕ} 0 1 = cc in omega arith)
-
-pub mended-right : (K : ℕ) (ks : List ℤ) (ls ls' : List ℕ) (c s : ℕ) (side : Side) (child l x : ℕ) → side ≡ Right → l ≡ left_at ls s → Mended K ks ls ls' c s l child x → MendedOn K ks ls ls' c s side child x
-mended-right K ks ls ls' c s Left child l x q e m = absurd (let z : ◌≡◌ {A = ℕ} 0 1 = cc in omega arith)
-mended-right K ks ls ls' c s Right child l x q e m = record { rep = λ t h u w a b. m.rep t h w u (rw e b) a; frame = λ u w a b. m.frame w u (rw e b) a }
+pub mended-right : {K : ℕ} {ks : List ℤ} {ls ls' : List ℕ} {c s : ℕ} {side : Side} {child l x : ℕ} → side ≡ Right → l ≡ left_at ls s → Mended K ks ls ls' c s l child x → MendedOn K ks ls ls' c s side child x
+mended-right q e m = rw q (record { rep = λ t h u w a b. m.rep t h w u (rw e b) a; frame = λ u w a b. m.frame w u (rw e b) a })

@@ -1,5 +1,5 @@
 -- The slots of a little tree in memory, in listing order.
-use Rattle.std.specs.Prelude.{◌≡◌, ◌⊎◌, List, ℕ, ℤ}
+use Rattle.std.specs.Prelude.{◌≡◌, List, ℕ, ℤ}
 use Rattle.model.specs.Tree.{Tree}
 use Rattle.model.proofs.Strikes.{slots}
 use Rattle.cells.specs.Memory.{Rep}
@@ -11,6 +11,6 @@ pub record Lying (ls : List ℕ) (s : ℕ) : Type 0 where
   pub tree : Tree
   pub rep : Rep K ks ls s tree
 
--- whatever tree lies at s has just the slots ss, or else `none` holds
-pub record Listed (ls : List ℕ) (s : ℕ) (none : Type 0) (ss : List ℕ) : Type 0 where
-  pub at : (K : ℕ) (ks : List ℤ) (u : Tree) → Rep K ks ls s u → none ⊎ (slots u ≡ ss)
+-- whatever tree lies at s has just the slots ss
+pub record Listed (ls : List ℕ) (s : ℕ) (ss : List ℕ) : Type 0 where
+  pub at : (K : ℕ) (ks : List ℤ) (u : Tree) → Rep K ks ls s u → slots u ≡ ss

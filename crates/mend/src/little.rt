@@ -1,5 +1,5 @@
 // A tree so little that its slots are read off the links.
-ghost use Rattle.std.specs.Prelude.{◌≡◌, [], ◌∷◌, length};
+ghost use Rattle.std.specs.Prelude.{[], ◌∷◌, length, IfSome};
 ghost use Rattle.cells.specs.Slots.{Slot};
 ghost use Rattle.mend.specs.Listings.{Lying, Listed};
 
@@ -13,50 +13,43 @@ pub struct Two {
     pub high: usize,
 }
 
-// The slots of the tree at s where it has just two, else 0.
-pub fn two_at(links: &[usize], s: usize) -> Two
+// The slots of the tree at s where it has just two.
+pub fn two_at(links: &[usize], s: usize) -> Option<Two>
     requires { Lying links.now s }
-    ensures { Listed links.now s ((result.low ≡ 0) × (result.high ≡ 0)) (result.low ∷ result.high ∷ []) }
+    ensures { IfSome result (λ two. Listed links.now s (two.low ∷ two.high ∷ [])) }
 {
-    if height_of(links, s) == 2 {
-        let l = left_of(links, s);
-        let r = right_of(links, s);
-        if l == 0 {
-            return Two { low: s, high: r };
-        }
-        if r == 0 {
-            return Two { low: l, high: s };
-        }
+    if height_of(links, s) != 2 {
+        return None;
     }
-    Two { low: 0, high: 0 }
+    match (left_of(links, s), right_of(links, s)) {
+        (0, r) => Some(Two { low: s, high: r }),
+        (l, 0) => Some(Two { low: l, high: s }),
+        _ => None,
+    }
 }
 
-// The slots of the tree at s where it has three and its root one child; else the middle one is 0.
-pub fn three_at(links: &[usize], s: usize) -> Three
+// The slots of the tree at s where it has three and its root one child.
+pub fn three_at(links: &[usize], s: usize) -> Option<Three>
     requires { Slot (length links.now) s × Lying links.now s }
-    ensures { Listed links.now s (result.middle ≡ 0) (result.low ∷ result.middle ∷ result.high ∷ []) }
+    ensures { IfSome result (λ three. Listed links.now s (three.low ∷ three.middle ∷ three.high ∷ [])) }
 {
-    let l = left_of(links, s);
-    let r = right_of(links, s);
-    if l == 0 {
-        let two = two_at(links, r);
-        return Three {
-            low: s,
-            middle: two.low,
-            high: two.high,
-        };
-    }
-    if r == 0 {
-        let two = two_at(links, l);
-        return Three {
-            low: two.low,
-            middle: two.high,
-            high: s,
-        };
-    }
-    Three {
-        low: 0,
-        middle: 0,
-        high: 0,
+    match (left_of(links, s), right_of(links, s)) {
+        (0, r) => {
+            let two = two_at(links, r)?;
+            Some(Three {
+                low: s,
+                middle: two.low,
+                high: two.high,
+            })
+        }
+        (l, 0) => {
+            let two = two_at(links, l)?;
+            Some(Three {
+                low: two.low,
+                middle: two.high,
+                high: s,
+            })
+        }
+        _ => None,
     }
 }

@@ -7,16 +7,16 @@ use lib.Dec.{ltb}
 use lib.ListN.{length, take, drop}
 use lib.IntN.{ℤ}
 use Rattle.model.specs.Answer.{Row, checked, counted, inward, outward, refused, wrote}
-use Rattle.model.specs.Ask.{holds, keep, nearest}
+use Rattle.model.specs.Ask.{keep, nearest}
 use Rattle.model.specs.Book.{Book, head_of, keys, links}
 use Rattle.model.specs.Calls.{any_zero, count, flat, list, near, near_answer, save}
-use Rattle.model.specs.Entry.{Entry, distance}
+use Rattle.model.specs.Entry.{Entry}
 use Rattle.model.specs.Gate.{After, reading, rows4}
 use Rattle.model.specs.Plain.{near_said, plainly, refusing, said_in, saying, says}
 use Rattle.model.specs.Pool.{book_of}
 use Rattle.model.specs.Rebuild.{listing}
 use Rattle.model.specs.Runs.{Call, perform}
-use Rattle.model.specs.Text.{same, text_of}
+use Rattle.model.specs.Text.{text_of}
 use Rattle.model.specs.Tree.{Tree}
 use Rattle.model.proofs.Backs.{image-book}
 use Rattle.model.proofs.Books.{Valid}

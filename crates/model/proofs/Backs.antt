@@ -8,10 +8,8 @@ use native.Mathlib.Omega.{arith}
 use lib.ListN.{length, replicate, length-append}
 use lib.IntN.{ℤ, pos}
 use Rattle.model.specs.Book.{Book, Cell, behind, cell, first, head_of, keys, links, up_from}
-use Rattle.model.specs.Calls.{count}
 use Rattle.model.specs.Pool.{book_of, cell_of, sound}
-use Rattle.model.specs.Strike.{left, right}
-use Rattle.model.specs.Tree.{Tree, balanced, height, nil, node, ordered, root_slot, size}
+use Rattle.model.specs.Tree.{Tree, height, nil, node, root_slot, size}
 use Rattle.model.proofs.Books.{Follows, Valid, chain_back, chain-follows, cross-of, follows-map, up-every, up-once, valid-in_pool, valid-once}
 use Rattle.model.proofs.Crowd.{InPool, up-length}
 use Rattle.model.proofs.Images.{AllS, Lies, alls-map, cell_in-lies, cell_in-miss, image-cell, lies-map, tree-back}

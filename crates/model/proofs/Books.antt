@@ -8,10 +8,9 @@ use lib.ListN.{length}
 use borrow.Author.Tests.{eq-eqb, ne_eqb}
 use Rattle.model.specs.Book.{Book, Cell, added, behind, cell, first, fresh, struck, up_from}
 use Rattle.model.specs.Entry.{Entry}
-use Rattle.model.specs.Gate.{sized}
 use Rattle.model.specs.Pool.{chain_from}
 use Rattle.model.specs.Strike.{freed, strike}
-use Rattle.model.specs.Tree.{Tree, balanced, items, nil, node, ordered}
+use Rattle.model.specs.Tree.{Tree, items, nil, node}
 use Rattle.model.proofs.Adds.{insert_all, insert-balanced, insert-ordered, insert-perm, item_at}
 use Rattle.model.proofs.Crowd.{InPool, PermS}
 use Rattle.model.proofs.Images.{AllS, Once, Other, cell_in-miss}

@@ -8,10 +8,9 @@ use lib.ListN.{replicate}
 use lib.IntN.{ℤ}
 use Rattle.model.specs.Answer.{Row, checked, inward, refusal_of}
 use Rattle.model.specs.Ask.{nearest}
-use Rattle.model.specs.Book.{keys, links}
 use Rattle.model.specs.Calls.{add, count, list, look_up, near, near_answer, save, strike_out, take_in, walked}
 use Rattle.model.specs.Demands.{Careful, Unique, page_in, room_in, scratch_in, tree_in, writes}
-use Rattle.model.specs.Gate.{After, reading}
+use Rattle.model.specs.Gate.{After}
 use Rattle.model.specs.Pool.{cell_of, read_limit, walk}
 use Rattle.model.specs.Rebuild.{listing}
 use Rattle.model.specs.Runs.{Call, State, perform, state_of}

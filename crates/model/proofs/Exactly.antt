@@ -9,22 +9,16 @@ use lib.IntN.{ℤ}
 use borrow.Author.Tests.{eqb-true}
 use Rattle.model.specs.Ask.{has}
 use Rattle.model.specs.Book.{Book, head_of}
-use Rattle.model.specs.Calls.{count}
 use Rattle.model.specs.Demands.{Exact, Image, InOrder}
 use Rattle.model.specs.Entry.{Entry, cmp}
-use Rattle.model.specs.Gate.{sized}
-use Rattle.model.specs.Number.{order}
 use Rattle.model.specs.Pool.{book_of}
 use Rattle.model.specs.Rebuild.{listing}
-use Rattle.model.specs.Text.{numbers}
-use Rattle.model.specs.Tree.{balanced, ordered}
 use Rattle.model.proofs.Backs.{is-head, is-sound}
 use Rattle.model.proofs.Books.{Valid}
 use Rattle.model.proofs.Listings.{all-listing, every-has, listing-all}
 use Rattle.model.proofs.Lists.{Every}
 use Rattle.model.proofs.Orders.{cmp-refl}
 use Rattle.model.proofs.Sounds.{Is, sound-is}
-use Rattle.model.proofs.Strikes.{slots}
 use Rattle.model.proofs.Trees.{balanced-true, both, ordered-true, true-balanced, true-ordered}
 use Rattle.model.specs.declared.Head.{Head}
 

@@ -4,10 +4,8 @@ use mathlib.Core.List.Permᴰ
 use mathlib.Core.List.{List, [], ◌∷◌}
 use Prim.Native.Nat.{ℕ, zero, suc, ◌/◌, Ordering}
 use lib.ListN.{length, take, drop}
-use Rattle.model.specs.Book.{first}
 use Rattle.model.specs.Entry.{cmp}
 use Rattle.model.specs.Rebuild.{build, put, rank, rebuild}
-use Rattle.model.specs.Text.{same}
 use Rattle.model.specs.Tree.{Item, Tree, nil, node}
 use Rattle.model.proofs.Adds.{less-unlike, lt-gt}
 use Rattle.model.proofs.Heights.{put-by, rank-length}

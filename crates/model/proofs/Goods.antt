@@ -5,14 +5,13 @@ use mathlib.Core.Bool.{Bool, true, false}
 use Prim.Native.Nat.{ℕ, suc, ◌+◌, ◌≤◌, ◌<◌, Ordering}
 use native.Mathlib.Omega.{arith}
 use lib.ListN.{length}
-use Rattle.model.specs.Ask.{has, holds, new_of}
+use Rattle.model.specs.Ask.{has, new_of}
 use Rattle.model.specs.Book.{Book, added, first, head_of, keys, links, struck}
 use Rattle.model.specs.Calls.{added_all}
 use Rattle.model.specs.Entry.{Entry, cmp}
 use Rattle.model.specs.Plain.{within, within_all, without}
 use Rattle.model.specs.Rebuild.{listing}
 use Rattle.model.specs.Runs.{State}
-use Rattle.model.specs.Text.{same}
 use Rattle.model.specs.Tree.{size}
 use Rattle.model.proofs.Backs.{valid-size}
 use Rattle.model.proofs.Books.{Valid, add-valid, strike-valid}

@@ -9,10 +9,8 @@ use lib.Dec.{leb}
 use lib.ListN.{length, take, drop, length-take, length-drop, take-append-drop}
 use borrow.Author.Tests.{leb-false}
 use Rattle.model.specs.Ask.{climb, fewest, reads, tallest}
-use Rattle.model.specs.Bench.{item}
 use Rattle.model.specs.Entry.{Entry, cmp}
 use Rattle.model.specs.Rebuild.{build, put, rank, rebuild}
-use Rattle.model.specs.Strike.{left, right}
 use Rattle.model.specs.Tree.{Item, Tree, height, nil, node, size}
 use Rattle.model.proofs.Trees.{Balanced, Even}
 

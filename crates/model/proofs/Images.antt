@@ -14,7 +14,6 @@ use borrow.Author.Tests.{eqb-true, eqb-false}
 use Rattle.model.specs.Book.{Book, Cell, cell, cell_in, key_cells, keys, link_cells, links, up_from}
 use Rattle.model.specs.Entry.{Entry}
 use Rattle.model.specs.Pool.{cell_of, tree_from}
-use Rattle.model.specs.Strike.{left, right}
 use Rattle.model.specs.Tree.{Item, Tree, height, nil, node, root_slot}
 use Rattle.model.proofs.Crowd.{InPool}
 use Rattle.model.proofs.Trees.{All}

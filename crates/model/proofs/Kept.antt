@@ -8,7 +8,6 @@ use lib.Dec.{leb}
 use lib.IntN.{ℤ}
 use borrow.Author.Tests.{leb-true, not-false}
 use Rattle.model.specs.Answer.{plain, refused}
-use Rattle.model.specs.Ask.{holds}
 use Rattle.model.specs.Book.{fresh, head_of, keys, links}
 use Rattle.model.specs.Calls.{no_head, start}
 use Rattle.model.specs.Demands.{Reached}
@@ -17,7 +16,6 @@ use Rattle.model.specs.Gate.{reading, rows3, sized}
 use Rattle.model.specs.Plain.{held_after, plainly}
 use Rattle.model.specs.Rebuild.{listing}
 use Rattle.model.specs.Runs.{Call, Given, GivenAll, State, perform, run, state_of}
-use Rattle.model.specs.Text.{same}
 use Rattle.model.proofs.Books.{fresh-valid}
 use Rattle.model.proofs.Gates.{checked-by, gate-none}
 use Rattle.model.proofs.Goods.{Good}

@@ -11,7 +11,6 @@ use borrow.Author.Tests.{eqb-true, eq-eqb, leb-true, le-leb}
 use Rattle.model.specs.Book.{Book, Cell, first, up_from}
 use Rattle.model.specs.Number.{order}
 use Rattle.model.specs.Pool.{in_pool, laid, strung, tree_from, zeros}
-use Rattle.model.specs.Strike.{left, right}
 use Rattle.model.specs.Tree.{Item, Tree, height, items, nil, node, root_slot, size, slots_of}
 use Rattle.model.proofs.Adds.{ordered-distinct}
 use Rattle.model.proofs.Books.{Follows}

@@ -9,13 +9,10 @@ use native.Mathlib.Omega.{arith}
 use lib.ListN.{length}
 use Rattle.model.specs.Ask.{has}
 use Rattle.model.specs.Book.{Book, added, struck}
-use Rattle.model.specs.Demands.{rising}
 use Rattle.model.specs.Entry.{Entry, cmp, distance}
-use Rattle.model.specs.Gate.{sized}
 use Rattle.model.specs.Laws.{Adds, Heights, Nearest, Rebuilds, Strikes, Texts}
-use Rattle.model.specs.Number.{order}
 use Rattle.model.specs.Rebuild.{listing, rank, rebuild}
-use Rattle.model.specs.Text.{ranged, same}
+use Rattle.model.specs.Text.{ranged}
 use Rattle.model.specs.Tree.{Item, entries_of}
 use Rattle.model.proofs.Adds.{insert-perm, item_at}
 use Rattle.model.proofs.Books.{add-valid, strike-valid}

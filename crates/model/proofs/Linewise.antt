@@ -13,7 +13,6 @@ use Rattle.model.specs.Entry.{Entry}
 use Rattle.model.specs.Laws.{Linewise, added_each}
 use Rattle.model.specs.Plain.{within}
 use Rattle.model.specs.Rebuild.{listing}
-use Rattle.model.specs.Text.{same}
 use Rattle.model.specs.Tree.{size}
 use Rattle.model.proofs.Books.{Valid}
 use Rattle.model.proofs.Exactly.{has-every, in_order-valid}

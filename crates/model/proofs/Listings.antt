@@ -11,7 +11,6 @@ use Rattle.model.specs.Add.{insert}
 use Rattle.model.specs.Ask.{has}
 use Rattle.model.specs.Entry.{Entry, cmp}
 use Rattle.model.specs.Plain.{within, without}
-use Rattle.model.specs.Pool.{gone}
 use Rattle.model.specs.Rebuild.{listing, put, rank}
 use Rattle.model.specs.Strike.{strike}
 use Rattle.model.specs.Tree.{Item, Tree, entries_of, items, nil, node, size}

@@ -14,7 +14,6 @@ use Rattle.model.specs.Calls.{look_up, walked}
 use Rattle.model.specs.Entry.{Entry, cmp}
 use Rattle.model.specs.Gate.{reading, rows3, sized}
 use Rattle.model.specs.Pool.{Walk, astray, cell_of, found, gone, read_limit, walk}
-use Rattle.model.specs.Text.{same}
 use Rattle.model.specs.Tree.{Item, Tree, height, nil, node, root_slot, size}
 use Rattle.model.proofs.Adds.{less-unlike}
 use Rattle.model.proofs.Backs.{image-lies, valid-size}

@@ -5,7 +5,6 @@ use mathlib.Core.Option.{Option, none, some}
 use Prim.Native.Nat.{ℕ, ◌≤◌, ◌<◌, compare, Ordering}
 use native.Mathlib.Omega.{arith}
 use Rattle.model.specs.Ask.{closer, nearest}
-use Rattle.model.specs.Calls.{near}
 use Rattle.model.specs.Entry.{Entry, cmp, distance}
 use Rattle.model.specs.Strike.{left}
 use Rattle.model.proofs.Adds.{less-unlike, lt-gt}

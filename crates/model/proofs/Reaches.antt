@@ -14,10 +14,9 @@ use Rattle.model.specs.Calls.{any_zero, look_up, near_answer, walked}
 use Rattle.model.specs.Demands.{Reached, Stands, rising}
 use Rattle.model.specs.Entry.{Entry}
 use Rattle.model.specs.Gate.{reading}
-use Rattle.model.specs.Pool.{cell_of, walk}
+use Rattle.model.specs.Pool.{cell_of}
 use Rattle.model.specs.Rebuild.{listing, rank}
 use Rattle.model.specs.Runs.{Call, perform}
-use Rattle.model.specs.Text.{same}
 use Rattle.model.specs.Tree.{Item, Tree, entries_of, height, is_less, items, nil, node, size, slots_of}
 use Rattle.model.proofs.Adds.{Has, item_at, ordered-distinct, slot_of-has}
 use Rattle.model.proofs.Asks.{perform-nearest}
@@ -33,7 +32,6 @@ use Rattle.model.proofs.Looks.{look-image, low-enough, slot_of-none, walk_of}
 use Rattle.model.proofs.Nears.{nearest-by}
 use Rattle.model.proofs.Passes.{Fit}
 use Rattle.model.proofs.Ranks.{Sorted, Unlike, rank-sorted}
-use Rattle.model.proofs.Strikes.{entries, slots}
 use Rattle.model.proofs.Takes.{step-image}
 use Rattle.model.proofs.Trees.{AllL, Less, Ordered, pair}
 use Rattle.model.specs.declared.Answer.{Answer}

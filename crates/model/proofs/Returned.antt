@@ -12,13 +12,12 @@ use lib.IntN.{ℤ}
 use borrow.Author.Tests.{eq-eqb, le-ltb}
 use Rattle.model.specs.Answer.{Row, outward}
 use Rattle.model.specs.Ask.{has, new_of}
-use Rattle.model.specs.Calls.{broken_at, count, entries_in, fields_of_parsed, is_broken, start}
+use Rattle.model.specs.Calls.{broken_at, entries_in, fields_of_parsed, is_broken, start}
 use Rattle.model.specs.Demands.{Reached, Returns, Runs, saved_from, taken_into, tree_in}
-use Rattle.model.specs.Entry.{Entry, distance}
+use Rattle.model.specs.Entry.{Entry}
 use Rattle.model.specs.Plain.{Turn, held_after, plainly, refusing, said_in, saying, says, within, within_all}
 use Rattle.model.specs.Rebuild.{listing}
 use Rattle.model.specs.Runs.{Call, GivenAll, State, perform, run, state_of}
-use Rattle.model.specs.Strike.{next}
 use Rattle.model.specs.Text.{parse, saved, text_of}
 use Rattle.model.proofs.Gates.{checked-open, gate-off}
 use Rattle.model.proofs.Goods.{Good, within_by}

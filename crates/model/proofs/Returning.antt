@@ -13,7 +13,6 @@ use Rattle.model.specs.Book.{Book}
 use Rattle.model.specs.Calls.{entries_in}
 use Rattle.model.specs.Demands.{rising}
 use Rattle.model.specs.Entry.{Entry, cmp}
-use Rattle.model.specs.Gate.{sized}
 use Rattle.model.specs.Number.{in_range}
 use Rattle.model.specs.Plain.{Turn, held_after, plain_add, plain_item, plain_items, plain_strike, plainly, within, within_all, without}
 use Rattle.model.specs.Rebuild.{listing}

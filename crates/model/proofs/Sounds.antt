@@ -12,10 +12,7 @@ use lib.Seq.{length-take-le, drop-drop}
 use lib.IntN.{ℤ, pos}
 use borrow.Author.Tests.{eqb-true, eqb-false, eq-eqb, leb-true, le-leb}
 use Rattle.model.specs.Book.{Book, Cell, behind, cell, cell_in, first, key_cells, keys, link_cells, links, up_from}
-use Rattle.model.specs.Calls.{count}
-use Rattle.model.specs.Gate.{sized}
 use Rattle.model.specs.Pool.{book_of, cell_of, chain_from, fitting, laid, sound, strung, tree_from}
-use Rattle.model.specs.Strike.{left, right}
 use Rattle.model.specs.Tree.{Tree, balanced, nil, node, ordered, root_slot, size}
 use Rattle.model.proofs.Books.{Follows, Valid, behind-here, behind-past}
 use Rattle.model.proofs.Crowd.{InPool, PermS}

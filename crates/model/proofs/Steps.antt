@@ -10,7 +10,7 @@ use lib.ListN.{length}
 use lib.Seq.{length-take-le}
 use borrow.Author.Tests.{eqb-false, not-false}
 use Rattle.model.specs.Answer.{Row, checked, gate, inward, outward, refused}
-use Rattle.model.specs.Ask.{has, holds, reads, slot_of}
+use Rattle.model.specs.Ask.{has, reads, slot_of}
 use Rattle.model.specs.Book.{Book, added, head_of, keys, links, struck}
 use Rattle.model.specs.Calls.{add, strike_out, walked}
 use Rattle.model.specs.Entry.{Entry}
@@ -19,7 +19,6 @@ use Rattle.model.specs.Plain.{Turn, plainly, refusing, said_in, saying, says, wi
 use Rattle.model.specs.Pool.{Walk}
 use Rattle.model.specs.Rebuild.{listing}
 use Rattle.model.specs.Runs.{Call, Passable, State, perform, state_of}
-use Rattle.model.specs.Text.{same}
 use Rattle.model.specs.Tree.{size}
 use Rattle.model.proofs.Adds.{slot_of-absent}
 use Rattle.model.proofs.Backs.{image-book, valid-size}

@@ -5,7 +5,6 @@ use mathlib.Core.List.{List, [], ◌∷◌, ◌++◌, Permᴰ}
 use Prim.Native.Nat.{ℕ, suc, Ordering}
 use Rattle.model.specs.Add.{mend}
 use Rattle.model.specs.Entry.{Entry, cmp}
-use Rattle.model.specs.Pool.{gone}
 use Rattle.model.specs.Strike.{Heir, Side, freed, from, leaf, left, moved, right, strike}
 use Rattle.model.specs.Tree.{Item, Tree, entries_of, items, nil, node, slots_of}
 use Rattle.model.proofs.Adds.{mend-perm, ordered-distinct}

@@ -9,7 +9,7 @@ use lib.Dec.{ltb, eqb}
 use lib.ListN.{length}
 use borrow.Author.Tests.{eqb-true, ltb-false, not-false}
 use Rattle.model.specs.Answer.{Row, checked, outward, refused}
-use Rattle.model.specs.Ask.{holds, new_of}
+use Rattle.model.specs.Ask.{new_of}
 use Rattle.model.specs.Book.{Book, head_of, keys, links}
 use Rattle.model.specs.Calls.{added_all, broken_at, entries_in, fields_of_parsed, is_broken, take_in}
 use Rattle.model.specs.Entry.{Entry}
@@ -17,7 +17,7 @@ use Rattle.model.specs.Gate.{After, leaving, rows4s, writing}
 use Rattle.model.specs.Plain.{plainly, refusing, saying, says, within_all}
 use Rattle.model.specs.Rebuild.{listing}
 use Rattle.model.specs.Runs.{Call, Given, perform}
-use Rattle.model.specs.Text.{Parsed, broken, parse, same, saved}
+use Rattle.model.specs.Text.{Parsed, broken, parse, saved}
 use Rattle.model.specs.Tree.{size}
 use Rattle.model.proofs.Asks.{step_count, step-list, step-nearest, step-save}
 use Rattle.model.proofs.Backs.{image-book}

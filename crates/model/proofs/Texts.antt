@@ -7,7 +7,6 @@ use Prim.Native.Nat.{ℕ, zero, suc, ◌≤◌}
 use native.Mathlib.Omega.{arith}
 use lib.ListN.{length, drop}
 use Rattle.model.specs.Entry.{Entry, cmp}
-use Rattle.model.specs.Gate.{sized}
 use Rattle.model.specs.Text.{Parsed, body, broken, cut_line, decimal, entry_lines, entry_of_line, following, number, numbers, pairs, parse, ranged, rises, same, saved, text_of, title, title_of_line}
 use Rattle.model.proofs.Adds.{less-unlike}
 use Rattle.model.proofs.Lists.{Every, OnceEach, every-join, every_map}

@@ -5,7 +5,7 @@ use Prim.Native.Nat.{ℕ, zero, suc, ◌+◌, compare, Ordering}
 use Rattle.std.proofs.Math.Dec.{compare_is_eq, is_le}
 use Rattle.model.specs.Number.{order}
 use Rattle.model.specs.Entry.{Entry, cmp, distance}
-use Rattle.model.specs.Tree.{Item, Tree, nil, node}
+use Rattle.model.specs.Tree.{Tree, nil, node}
 use Rattle.model.specs.declared.Bound.{Bound}
 use Rattle.model.specs.declared.Bound.TheVariants.{Free, AtLeast, AtMost, Between}
 

@@ -3,7 +3,7 @@ use Rattle.std.specs.Prelude.{◌≡◌, List, [], ◌∷◌, ℕ, ℤ, pos, neg
 use Prim.Native.Nat.{Ordering}
 use Rattle.model.specs.Number.{difference, distance_of_field}
 use Rattle.model.specs.Entry.{Entry, super_key, cmp}
-use Rattle.model.specs.Tree.{Item, Tree, nil, node}
+use Rattle.model.specs.Tree.{Item, nil, node}
 use Rattle.model.specs.Rebuild.{rebuild}
 use Rattle.model.specs.Ask.{fewest, tallest}
 use Rattle.model.specs.Pool.{book_of}

@@ -1,7 +1,7 @@
 -- A book: its tree and its chain of free slots; and the lent memory of a book, cell by cell.
 use Rattle.std.specs.Prelude.{List, [], ◌∷◌, ◌++◌, true, false, ℕ, zero, suc, eqb, replicate, ℤ, pos}
 use Rattle.model.specs.Entry.{Entry}
-use Rattle.model.specs.Tree.{Item, Tree, nil, node, height, size, root_slot}
+use Rattle.model.specs.Tree.{Tree, nil, node, height, size, root_slot}
 use Rattle.model.specs.Add.{insert}
 use Rattle.model.specs.Strike.{strike, freed}
 use Rattle.model.specs.declared.Head.{Head}

@@ -1,6 +1,6 @@
 -- What is claimed of the tree, the nearest and the text, in the words of the definitions alone; each record is proved for all its arguments.
 use Rattle.std.specs.Prelude.{◌≡◌, true, false, not, ℕ, suc, ◌+◌, ◌*◌, ◌≤◌, ◌<◌, eqb, length, take, ℤ}
-use mathlib.Core.List.{List, [], ◌∷◌, ◌++◌, Permᴰ}
+use mathlib.Core.List.{List, [], ◌∷◌, Permᴰ}
 use Rattle.std.proofs.Math.Option.{Option, none, some}
 use Prim.Native.Nat.{Ordering}
 use Rattle.model.specs.Number.{difference, distance_of_field}

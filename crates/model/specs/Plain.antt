@@ -1,5 +1,5 @@
 -- The plain book: a finite set of entries, and what every call says of it. It knows no tree, no slot and no memory.
-use Rattle.std.specs.Prelude.{List, [], ◌∷◌, ◌++◌, Bool, true, false, not, ltb, eqb, length, take, drop, replicate, ℤ}
+use Rattle.std.specs.Prelude.{List, [], ◌∷◌, ◌++◌, true, false, not, ltb, eqb, length, take, drop, replicate, ℤ}
 use Rattle.std.proofs.Math.Option.{Option, none, some}
 use Prim.Native.Nat.{ℕ, suc, ◌+◌, ◌*◌, Ordering}
 use Rattle.model.specs.Entry.{Entry, cmp, distance}

@@ -4,7 +4,7 @@ use Prim.Native.Nat.{ℕ, zero, suc, ◌+◌, ◌*◌, Ordering}
 use Rattle.std.proofs.Math.Dec.{compare_is_eq}
 use Rattle.model.specs.Number.{order}
 use Rattle.model.specs.Entry.{Entry, cmp}
-use Rattle.model.specs.Tree.{Item, Tree, nil, node, height, size, balanced, ordered}
+use Rattle.model.specs.Tree.{Tree, nil, node, height, size, balanced, ordered}
 use Rattle.model.specs.Book.{Book, Cell}
 use Rattle.model.specs.declared.Head.{Head}
 

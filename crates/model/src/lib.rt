@@ -3,14 +3,14 @@
 
 // Up to four numbers; those beyond the book's fields are ignored on the way in and 0 on the way out.
 #[repr(C)]
-#[derive(Clone, Copy)]
+#[derive(Clone, Copy, Default)]
 pub struct Entry {
     pub f: [i64; 4],
 }
 
 // What stands outside the lent memory: fields, capacity, root, first free slot, number of entries.
 #[repr(C)]
-#[derive(Clone, Copy)]
+#[derive(Clone, Copy, Default)]
 pub struct Head {
     pub k: usize,
     pub c: usize,
@@ -26,6 +26,20 @@ pub struct Shape {
     pub c: usize,
 }
 
+// The shape that a head gives.
+impl From<Head> for Shape {
+    ghost use Rattle.std.specs.Prelude.{◌≡◌};
+
+    ghost from_gives = { λ head shape. shape ≡ record { k = head.k; c = head.c } };
+
+    fn from(head: Head) -> Shape {
+        Shape {
+            k: head.k,
+            c: head.c,
+        }
+    }
+}
+
 // What one field may be, ends included.
 #[derive(Clone, Copy)]
 pub enum Bound {
@@ -38,7 +52,7 @@ pub enum Bound {
 // A name for each row of the table of refusals, in the table's order.
 #[derive(Clone, Copy)]
 pub enum Refusal {
-    Fields,
+    Fields = 1,
     Capacity,
     Lengths,
     Unsound,
@@ -50,6 +64,18 @@ pub enum Refusal {
     Mismatch,
     Step,
     Tray,
+}
+
+// The paper's number of a refusal.
+impl From<Refusal> for usize {
+    ghost use Rattle.std.specs.Prelude.{◌≡◌};
+    ghost use Rattle.model.specs.Answer.{number_of};
+
+    ghost from_gives = { λ why n. n ≡ number_of why };
+
+    fn from(why: Refusal) -> usize {
+        why as usize
+    }
 }
 
 #[derive(Clone, Copy)]

@@ -129,9 +129,6 @@ module _ (r : Refusal) (l n : ℕ) (en : n ≡ number_of r) (room : List ℕ) (f
       go : (x y : ℕ) → x ≡ y → x ≤ length room → 0 + y ≤ length room
       go x y e h = omega arith
 
-  pub number_fits : 0 + length number_piece ≤ length room
-  number_fits = first_fits room 0 number_piece (line_piece ++ (10 ∷ [])) place1
-
   module _ (o₁ : List ℕ) (p₁ : ℕ) (w₁ : Puts room 0 number_piece o₁ p₁) where
     place2 : p₁ + length (line_piece ++ (10 ∷ [])) ≤ length o₁
     place2 = next_fits room 0 number_piece (line_piece ++ (10 ∷ [])) o₁ p₁ place1 w₁

@@ -21,7 +21,12 @@ use Rattle.print.specs.Place.{Puts}
 use Rattle.print.proofs.Decimals.{decimal-short}
 use Rattle.print.proofs.Signs.{signed-short}
 use Rattle.page.specs.Trees.{entry_line, totals, PutEntry}
-use Rattle.page.proofs.Bits.{Small, front-small}
+use mir.Syntax.{w64}
+use mir.Val.{Val}
+use denote.Array.{Array}
+use denote.Laws.{Is}
+use denote.Signed.{SInt}
+use Rattle.page.proofs.Bits.{Small, array-small, array_long, front-small}
 
 -- pairs of numbers of 64 bits
 pairs-short : (name : ℕ) (e : Entry) → Small e → length (pairs name e) ≤ 24 * length e
@@ -46,12 +51,12 @@ entry-short K t s e ht hs l h =
     omega arith
 
 -- the line of an entry that was read by value
-module _ (K t s : ℕ) (f : List ℤ) (four : length f ≡ 4) (small : Small f) (k : K ≤ 4) (ht : t < 2 ^ 64) (hs : s < 2 ^ 64) where
+module _ (K t s : ℕ) (f : List ℤ) (vs : List Val) (own : Is (Array (SInt w64) 4) f vs) (k : K ≤ 4) (ht : t < 2 ^ 64) (hs : s < 2 ^ 64) where
   pub part-long : length (take K f) ≡ K
-  part-long = length-take-le K f (omega arith)
+  part-long = let four = array_long 4 f vs own in length-take-le K f (omega arith)
 
   pub line-short : length (entry_line K t s (take K f)) ≤ 160
-  line-short = let n = part-long in entry-short K t s (take K f) ht hs (omega arith) (front-small K f small)
+  line-short = let n = part-long in entry-short K t s (take K f) ht hs (omega arith) (front-small K f (array-small 4 f vs own))
 
   pub line-ready : (room : List ℕ) (at : ℕ) → at + 160 ≤ length room → at + length (entry_line K t s (take K f)) ≤ length room
   line-ready room at h = let n = line-short in omega arith

@@ -13,8 +13,9 @@ use Rattle.model.specs.Show.{too_long, refusal_line, shown_text, program}
 use Rattle.model.specs.declared.Refusal.TheVariants.{Text}
 use Rattle.print.specs.Place.{Puts}
 use Rattle.text.specs.Told.{summed}
-use Rattle.text.specs.declared.Saved.{Saved}
-use Rattle.text.specs.declared.Saved.TheVariants.{Broken, Book}
+use Rattle.std.proofs.Common.{Result, Ok, Err}
+use Rattle.text.specs.declared.Broken.{Broken}
+use Rattle.text.specs.declared.title.Title.{Title}
 use Rattle.page.specs.Texts.{SavedIn, Shown}
 use Rattle.page.proofs.Takes.{few-fields}
 
@@ -47,26 +48,29 @@ module _ (text room o : List ℕ) (p : ℕ) where
       }
 
 -- what the verdict on a text says of it
-module _ (text : List ℕ) (s : Saved) (e : s ≡ summed (parse text)) where
-  broken-at : (l : ℕ) → s ≡ Broken l → parse text ≡ broken l
-  broken-at l b = go (parse text) (sym e ∙ b)
+module _ (text : List ℕ) (s : Result Title Broken) (e : s ≡ summed (parse text)) where
+  broken-at : (b : Broken) → s ≡ Err b → parse text ≡ broken b.line
+  broken-at b f = go (parse text) (sym e ∙ f)
     where
-      go : (q : Parsed) → summed q ≡ Broken l → q ≡ broken l
-      go (broken m) f = let z : m ≡ l = cc in ap broken z
-      go (saved K es) f = let z : ◌≡◌ {A = ℕ} 0 1 = cc in absurd (omega arith)
+      go : (q : Parsed) → summed q ≡ Err b → q ≡ broken b.line
+      go (broken m) f = let z : record { line = m } ≡ b = cc in ap (λ (x : Broken). broken x.line) z
+      go (saved K es) f = cc
 
-  pub broken-put : (l : ℕ) → s ≡ Broken l → (room o : List ℕ) (p : ℕ) → Puts room 0 (refusal_line Text l) o p → Puts room 0 (shown_text text (parse text)) o p
-  broken-put l b room o p = subst (λ (x : List ℕ). Puts room 0 x o p) (sym (ap (shown_text text) (broken-at l b)))
+  pub broken-put : (b : Broken) → s ≡ Err b → (room o : List ℕ) (p : ℕ) → Puts room 0 (refusal_line Text b.line) o p → Puts room 0 (shown_text text (parse text)) o p
+  broken-put b f room o p = subst (λ (x : List ℕ). Puts room 0 x o p) (sym (ap (shown_text text) (broken-at b f)))
 
-  pub saved-in : (k n : ℕ) → s ≡ Book k n → SavedIn text k
-  saved-in k n b = go (parse text) refl (sym e ∙ b)
-    where
-      go : (q : Parsed) → parse text ≡ q → summed q ≡ Book k n → SavedIn text k
-      go (broken m) g f = let z : ◌≡◌ {A = ℕ} 0 1 = cc in absurd (omega arith)
-      go (saved K es) g f = let z : K ≡ k = cc in record { entries = es; is = g ∙ ap (λ (x : ℕ). saved x es) z }
+  module _ (t : Title) (f : s ≡ Ok t) where
+    pub saved-in : SavedIn text t.fields
+    saved-in = go (parse text) refl (sym e ∙ f)
+      where
+        go : (q : Parsed) → parse text ≡ q → summed q ≡ Ok t → SavedIn text t.fields
+        go (broken m) g f = cc
+        go (saved K es) g f =
+            let z : record { fields = K; entries = length es } ≡ t = cc in
+            record { entries = es; is = g ∙ ap (λ (x : Title). saved x.fields es) z }
 
-  pub few-keys : (k n : ℕ) → s ≡ Book k n → k * 512 ≤ 2048
-  few-keys k n b = let h = few-fields text k (saved-in k n b) in omega arith
+    pub few-keys : t.fields * 512 ≤ 2048
+    few-keys = let h = few-fields text t.fields saved-in in omega arith
 
 -- the front of memory that is all 0
 pub front-zero : (n m : ℕ) → n ≤ m → take n (replicate m (pos 0)) ≡ replicate n (pos 0)

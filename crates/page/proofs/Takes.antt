@@ -31,10 +31,6 @@ use Rattle.weigh.specs.Sounds.{Sound}
 use Rattle.print.specs.Place.{Puts}
 use Rattle.page.specs.Texts.{SavedIn}
 
--- the print of an answer, by its outcome
-pub by-outcome : (a : Answer) (ks : List ℤ) (ls room o : List ℕ) (p : ℕ) (x : Outcome) → a.outcome ≡ x → Puts room 0 (taken_lines a.head.k (reading a ks ls) x) o p → Puts room 0 (taken_lines a.head.k (reading a ks ls) a.outcome) o p
-by-outcome a ks ls room o p x e = subst (λ (y : Outcome). Puts room 0 (taken_lines a.head.k (reading a ks ls) y) o p) (sym e)
-
 -- the memory of a book in order is a sound pool
 record Pooled (K C : ℕ) (s : State) : Type 0 where
   sound : Sound s.head s.keys s.links

@@ -4,7 +4,7 @@
 ghost use Rattle.page.specs.Texts.{Shown};
 
 use model::Refusal;
-use text::Saved;
+use text::Broken;
 
 mod pool; // pool.rt: the totals and the tree of a book
 mod refusal; // refusal.rt: the line of a refusal
@@ -22,10 +22,10 @@ pub fn shown(input: &[u8], room: &mut [u8; ROOM]) -> usize
     if 32768 < input.len() {
         return print::put_bytes(room, 0, b"too_long=32768\n");
     }
-    let saved = text::take_apart(input);
-    match saved {
-        Saved::Broken(line) => refusal::put_refusal(room, Refusal::Text, line),
-        Saved::Book(k, _) => {
+    match text::take_apart(input) {
+        Err(Broken { line }) => refusal::put_refusal(room, Refusal::Text, line),
+        Ok(title) => {
+            let k = title.fields;
             let mut keys = [0i64; 2048];
             let mut links = [0usize; 1536];
             let mut scratch = [0usize; 512];

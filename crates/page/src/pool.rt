@@ -27,10 +27,12 @@ pub fn put_book(head: Head, keys: &[i64], links: &[usize], room: &mut [u8]) -> u
     requires { Sound head keys.now links.now × (160 * head.c + 160 ≤ length room.old) }
     ensures { Puts room.old 0 (book_lines head.k (book_of head keys.now links.now)) room.new result }
 {
-    let k = head.k;
-    let c = head.c;
-    let n = head.n;
     let height = cells::slot::height_of(links, head.root);
-    let at = put_totals(room, n, height, c - n);
-    put_tree(keys, links, Shape { k, c }, head.root, 0, room, at)
+    let free = head.c - head.n;
+    let at = put_totals(room, head.n, height, free);
+    let shape = Shape {
+        k: head.k,
+        c: head.c,
+    };
+    put_tree(keys, links, shape, head.root, 0, room, at)
 }

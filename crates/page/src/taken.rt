@@ -16,10 +16,8 @@ pub fn put_answer(answer: Answer, keys: &[i64], links: &[usize], room: &mut [u8]
     requires { Sound answer.head keys.now links.now × ((answer.head.c ≡ 512) × (82080 ≤ length room.old)) }
     ensures { Puts room.old 0 (taken_lines answer.head.k (reading answer keys.now links.now) answer.outcome) room.new result }
 {
-    let outcome = answer.outcome;
-    match outcome {
-        Outcome::Found => 0,
-        Outcome::Absent => 0,
+    match answer.outcome {
+        Outcome::Found | Outcome::Absent => 0,
         Outcome::Done => put_book(answer.head, keys, links, room),
         Outcome::Refused(why) => put_refusal(room, why, answer.line),
     }

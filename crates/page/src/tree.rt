@@ -20,13 +20,11 @@ pub fn put_entry(
     requires at_in_bounds { at + 160 ≤ length room.old }
     ensures { PutEntry shape.k keys.now s depth room.old room.new at result }
 {
-    let k = shape.k;
     let e = cells::slot::entry_at(keys, shape, s);
-    let f = e.f;
     let a = put_number(room, at, b"slot=", s);
     let b = put_number(room, a, b" depth=", depth);
-    let c = put_cut(room, b, depth % k);
-    print::put_line(room, c, &f[..k])
+    let c = put_cut(room, b, depth % shape.k);
+    print::put_line(room, c, &e.f[..shape.k])
 }
 
 // The lines of the tree at s, whose root is at a depth; returns the place behind them.

@@ -3,9 +3,8 @@ use mathlib.Core.Path.{◌≡◌, refl, sym, ap, ◌∙◌}
 use mathlib.Core.List.{List, [], ◌∷◌, ◌++◌, append_assoc}
 use Prim.Native.Nat.{ℕ, suc, ◌+◌, ◌≤◌, ◌<◌}
 use native.Mathlib.Omega.{arith}
-use native.Mathlib.Numerals.{add-one}
-use lib.ListN.{length, get_or, set, take, drop, length-append, drop_of_length-le, take-append-drop}
-use lib.Seq.{sets, sets-eq, length-sets, drop-cons}
+use lib.ListN.{length, set, take, drop, length-append, take-append-drop}
+use lib.Seq.{sets, sets-eq, length-sets}
 use Rattle.print.specs.Place.{written}
 
 -- a run of stores is a write at a place
@@ -44,16 +43,3 @@ written-more out at a x h =
     let l = length-append a (x ∷ []) in
     let n = written-length out at a (omega arith) in
     written_one (written out at a) (at + length a) x (omega arith) ∙ written-join out at a (x ∷ []) (omega arith)
-
--- the turns of a copy: what is still to be stored, from place `at + i` on
-module _ (bytes out₀ : List ℕ) (at : ℕ) (out : List ℕ) (i : ℕ) (inv : sets out (at + i) (drop i bytes) ≡ sets out₀ at bytes) where
-  pub copy-on : i < length bytes → sets (set out (at + i) (get_or bytes i 0)) (at + (i + 1)) (drop (i + 1) bytes) ≡ sets out₀ at bytes
-  copy-on h =
-      let e : at + (i + 1) ≡ suc (at + i) = omega arith in
-      rw (e, add-one i) (ap (sets out (at + i)) (sym (drop-cons bytes i 0 h)) ∙ inv)
-
-  pub copy-end : at + length bytes ≤ length out₀ → length bytes ≤ i → out ≡ written out₀ at bytes
-  copy-end f h = ap (sets out (at + i)) (sym (drop_of_length-le bytes h)) ∙ inv ∙ sets-written out₀ at bytes f
-
-pub copy_start : (bytes out : List ℕ) (at : ℕ) → sets out (at + 0) (drop 0 bytes) ≡ sets out at bytes
-copy_start bytes out at = let e : at + 0 ≡ at = omega arith in rw e refl

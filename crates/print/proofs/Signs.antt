@@ -1,18 +1,15 @@
 -- A signed number by its sign and its magnitude, as the machine tests and casts it.
 use mathlib.Core.Path.{◌≡◌, refl, ap, ◌∙◌}
-use mathlib.Core.Bool.{true, false}
 use Prim.Native.Nat.{ℕ, zero, suc, ◌+◌, ◌-◌, ◌^◌, ◌<◌, ◌≤◌}
 use native.Mathlib.Omega.{arith}
-use borrow.Author.Tests.{ltb-true}
 use lib.IntN.{ℤ, pos, negsuc, nat_abs, ◌-ℤ◌}
-use lib.Signed.{mag, lt_z}
+use lib.Signed.{mag}
 use mir.Syntax.{w64}
 use mir.Val.{to_z, of_z, SFits}
 use mir.ValLaws.{to_z-of_z, to_z_pos}
 use lib.ListN.{length}
-use mathlib.Core.List.{◌∷◌}
 use native.Mathlib.Numerals.{sub-one}
-use Rattle.model.specs.Text.{decimal, minus, signed}
+use Rattle.model.specs.Text.{minus, signed}
 use Rattle.model.proofs.Machine.{back}
 use Rattle.print.proofs.Decimals.{decimal-short}
 
@@ -20,20 +17,6 @@ use Rattle.print.proofs.Decimals.{decimal-short}
 module _ (x : ℤ) (m : ℕ) (f : SFits w64 x) (e : m ≡ nat_abs (to_z w64 (of_z w64 x))) where
   same-magnitude : m ≡ nat_abs x
   same-magnitude = e ∙ ap nat_abs (to_z-of_z w64 x f)
-
-  pub print-below : lt_z (to_z w64 (of_z w64 x)) (pos 0) ≡ true → signed x ≡ 45 ∷ decimal m
-  print-below h = rw same-magnitude (below x (rw (to_z-of_z w64 x f) at h))
-    where
-      below : (y : ℤ) → lt_z y (pos 0) ≡ true → signed y ≡ 45 ∷ decimal (nat_abs y)
-      below (pos n) g = absurd (let z : n < 0 = ltb-true n 0 g in omega arith)
-      below (negsuc n) g = refl
-
-  pub print-over : lt_z (to_z w64 (of_z w64 x)) (pos 0) ≡ false → signed x ≡ decimal m
-  print-over h = rw same-magnitude (above x (rw (to_z-of_z w64 x f) at h))
-    where
-      above : (y : ℤ) → lt_z y (pos 0) ≡ false → signed y ≡ decimal (nat_abs y)
-      above (pos n) g = refl
-      above (negsuc n) g = absurd (let z : ◌≡◌ {A = ℕ} 0 1 = cc in omega arith)
 
   pub magnitude-small : m ≤ 9223372036854775808
   magnitude-small = rw same-magnitude (small x f.sfits)
@@ -67,6 +50,3 @@ minus-back m h = back (minus m) (minus-small m h)
 
 pub negative_fits : (m : ℕ) → 1 ≤ m → m ≤ 9223372036854775808 → SFits w64 (negsuc 0 -ℤ to_z w64 (m - 1))
 negative_fits m g h = rw (negative-is m g h) (record { sfits = minus-small m h })
-
-pub negative_back : (m : ℕ) → 1 ≤ m → m ≤ 9223372036854775808 → to_z w64 (of_z w64 (negsuc 0 -ℤ to_z w64 (m - 1))) ≡ minus m
-negative_back m g h = to_z-of_z w64 (negsuc 0 -ℤ to_z w64 (m - 1)) (negative_fits m g h) ∙ negative-is m g h

@@ -29,9 +29,6 @@ title-size k n =
     let d = length-append (decimal k) ((32 ∷ 101 ∷ 110 ∷ 116 ∷ 114 ∷ 105 ∷ 101 ∷ 115 ∷ 61 ∷ []) ++ decimal n) in
     omega arith
 
-pub title-length : (k n : ℕ) → length (title k n) + 1 ≡ length (decimal k) + length (decimal n) + 24
-title-length k n = let e = length-append (title k n) (10 ∷ []) in let s = title-size k n in omega arith
-
 -- two pieces written one behind the other
 then : (out : List ℕ) (at : ℕ) (a b o : List ℕ) (to : ℕ) → at + length (a ++ b) ≤ length out → o ≡ written out at a → to ≡ at + length a → written o to b ≡ written out at (a ++ b)
 then out at a b o to f p q = rw (p, q) (written-join out at a b f)
@@ -60,12 +57,6 @@ title-all out at k n f o1 p1 e1 q1 o2 p2 e2 q2 o3 p3 e3 q3 o4 p4 e4 q4 =
     ∙ then o1 p1 (decimal k) (entries_word ++ (decimal n ++ (10 ∷ []))) o2 p2 (omega arith) e2 q2
     ∙ then out at fields_word (decimal k ++ (entries_word ++ (decimal n ++ (10 ∷ [])))) o1 p1 (omega arith) e1 q1
     ∙ ap (written out at) (sym (title-pieces k n (10 ∷ [])))
-
--- a signed number
-pub minus-all : (out : List ℕ) (at : ℕ) (s d : List ℕ) → at + length s ≤ length out → s ≡ 45 ∷ d → (o : List ℕ) → o ≡ written (set out at 45) (at + 1) d → o ≡ written out at s
-minus-all out at s d f e o p =
-    let l = ap length e in
-    p ∙ then out at (45 ∷ []) d (set out at 45) (at + 1) (omega arith) (written_one out at 45 (omega arith)) refl ∙ ap (written out at) (sym e)
 
 -- a pair of an entry line
 pub pair_size : (name : ℕ) (x : ℤ) (end : ℕ) → length (pair_of name x end) ≡ length (signed x) + 3

@@ -19,12 +19,7 @@ pub fn decimal_length(n: usize) -> usize
 pub fn magnitude(x: i64) -> usize
     ensures { result ≡ nat_abs x }
 {
-    if x < 0 {
-        let up = x - i64::MIN;
-        9223372036854775808 - (up as usize)
-    } else {
-        x as usize
-    }
+    x.unsigned_abs() as usize
 }
 
 // A byte more where there is a sign.
@@ -47,14 +42,12 @@ pub fn line_length(part: &[i64]) -> usize
     requires { length part.now ≤ 4 }
     ensures { result ≡ length (pairs 97 part.now) + 1 }
 {
-    if part.len() == 0 {
+    if part.is_empty() {
         return 1;
     }
     let mut count: usize = 0;
-    let mut i: usize = 0;
-    while i < part.len() {
-        count += 3 + signed_length(part[i]);
-        i += 1;
+    for x in part {
+        count += 3 + signed_length(*x);
     }
     count
 }

@@ -1,4 +1,5 @@
 // Printing into a lent slice, from a place on; each function returns the place behind what it wrote.
+// The place stays beside the slice: with a part of the slice in place of both, each call would cut it anew and add up lengths.
 ghost use Rattle.std.specs.Prelude.{◌≡◌, ◌∷◌, [], ◌++◌, ◌+◌, ◌-◌, ◌<◌, ◌≤◌, length};
 ghost use Rattle.model.specs.Text.{decimal, signed, pairs, title};
 ghost use Rattle.print.specs.Place.{Puts};
@@ -11,12 +12,9 @@ pub fn put_bytes(out: &mut [u8], at: usize, bytes: &[u8]) -> usize
     requires { at + length bytes.now ≤ length out.old }
     ensures { Puts out.old at bytes.now out.new result }
 {
-    let mut i: usize = 0;
-    while i < bytes.len() {
-        out[at + i] = bytes[i];
-        i += 1;
-    }
-    at + i
+    let end = at + bytes.len();
+    out[at..end].copy_from_slice(bytes);
+    end
 }
 
 // The digits in front of the last one first.
@@ -25,11 +23,11 @@ pub fn put_decimal(out: &mut [u8], at: usize, n: usize) -> usize
     ensures { Puts out.old at (decimal n) out.new result }
 {
     if n < 10 {
-        out[at] = 48 + n as u8;
+        out[at] = b'0' + n as u8;
         return at + 1;
     }
     let last = put_decimal(out, at, n / 10);
-    out[last] = 48 + (n % 10) as u8;
+    out[last] = b'0' + (n % 10) as u8;
     last + 1
 }
 
@@ -84,16 +82,13 @@ pub fn put_line(out: &mut [u8], at: usize, part: &[i64]) -> usize
     requires { (at + length (pairs 97 part.now ++ (10 ∷ [])) ≤ length out.old) × (length part.now ≤ 4) }
     ensures { Puts out.old at (pairs 97 part.now ++ (10 ∷ [])) out.new result }
 {
-    if part.len() == 0 {
+    if part.is_empty() {
         out[at] = b'\n';
         return at + 1;
     }
     let mut to = at;
-    let mut i: usize = 0;
-    while i < part.len() {
-        let end = end_byte(i, part.len());
-        to = put_pair(out, to, 97 + i as u8, part[i], end);
-        i += 1;
+    for (i, x) in part.iter().enumerate() {
+        to = put_pair(out, to, b'a' + i as u8, *x, end_byte(i, part.len()));
     }
     to
 }

@@ -1,4 +1,3 @@
 -- Laws of the gate.
 pub mod Gates
 pub mod Pools
-pub mod Handing

@@ -1,6 +1,7 @@
--- The gate with the pool judged: what it lets through, and what an open pool is.
+-- The gate with the pool judged: what an open pool is.
 use mathlib.Core.Path.{◌≡◌, refl, sym, ap, ◌∙◌}
 use mathlib.Core.Option.{Option, none, some}
+use Rattle.std.specs.Prelude.{Ok, Err}
 use mathlib.Core.Bool.{Bool, true, false, not}
 use mathlib.Core.List.{List, [], ◌∷◌, ◌++◌}
 use Prim.Native.Nat.{ℕ}
@@ -15,7 +16,6 @@ use Rattle.model.specs.Gate.{rows3, rows4}
 use Rattle.model.specs.declared.Head.{Head}
 use Rattle.model.specs.declared.Refusal.{Refusal}
 use Rattle.model.specs.declared.Refusal.TheVariants.{Unsound}
-use Rattle.model.proofs.Gates.{gate-on, gate-off}
 use Rattle.model.proofs.Ranks.{Distinct}
 use Rattle.model.proofs.Adds.{ordered-distinct}
 use Rattle.model.proofs.Sounds.{Is}
@@ -23,9 +23,7 @@ use Rattle.cells.specs.Slots.{Room}
 use Rattle.cells.specs.Memory.{Rep}
 use Rattle.ask.specs.Standing.{Stands, Standing}
 use Rattle.sound.specs.Parts.{shape_of}
-use Rattle.reply.specs.Gates.{told, fitting, pooled}
-use Rattle.reply.specs.declared.gate.Gate.{Gate}
-use Rattle.reply.specs.declared.gate.Gate.TheVariants.{Open, Shut}
+use Rattle.reply.specs.Gates.{Gate, told, fitting, judged, pooled}
 use Rattle.reply.proofs.Gates.{told-open, told-shut, no-scratch, room}
 use Rattle.weigh.specs.Sounds.{Sound}
 use Rattle.weigh.proofs.Held.{its, its-rep, its-stands, its-standing, ordered_of}
@@ -58,35 +56,23 @@ module _ (h : Head) (ks : List ℤ) (ls : List ℕ) (ns : ℕ) where
   abbrev front : List Row
   front = rows3 h.k h.c (fitting h.k h.c (length ks) (length ls) ns)
 
-  abbrev back : List Row
-  back = (not (sound h ks ls), Unsound) ∷ []
-
-  pub pool-shut : (r : Refusal) → gate front ≡ some r → Shut r ≡ told (gate (pooled h ks ls ns))
-  pool-shut r e = sym (ap told (behind-shut front back r e))
-
-  pub pool-sound : (b : Bool) → gate front ≡ none → b ≡ sound h ks ls → b ≡ true → Open ≡ told (gate (pooled h ks ls ns))
-  pool-sound b e s t = sym (ap told (behind-open front back e ∙ gate-off (not (sound h ks ls)) Unsound [] (ap not (sym s ∙ t))))
-
-  pub pool-unsound : (b : Bool) → gate front ≡ none → b ≡ sound h ks ls → b ≡ false → Shut Unsound ≡ told (gate (pooled h ks ls ns))
-  pool-unsound b e s t = sym (ap told (behind-open front back e ∙ gate-on (not (sound h ks ls)) Unsound [] (ap not (sym s ∙ t))))
-
   -- an open pool
-  module _ (g : Gate) (is : g ≡ told (gate (pooled h ks ls ns))) (o : g ≡ Open) where
+  module _ (g : Gate) (is : g ≡ told (gate (pooled h ks ls ns))) (o : g ≡ Ok tt) where
     pub all-open : gate (pooled h ks ls ns) ≡ none
     all-open = told-open (gate (pooled h ks ls ns)) (sym is ∙ o)
 
     pub front-open : gate front ≡ none
-    front-open = rows-open front back all-open
+    front-open = rows-open front (judged h ks ls) all-open
 
     pub is-sound : sound h ks ls ≡ true
-    is-sound = not-false (sound h ks ls) (go (not (sound h ks ls)) (sym (behind-open front back front-open) ∙ all-open))
+    is-sound = not-false (sound h ks ls) (go (not (sound h ks ls)) (sym (behind-open front (judged h ks ls) front-open) ∙ all-open))
       where
         go : (x : Bool) → gate ((x, Unsound) ∷ []) ≡ none → x ≡ false
         go true e = let z : ◌≡◌ {A = ℕ} 0 1 = cc in absurd (omega arith)
         go false e = refl
 
     pub pool-room : Room (shape_of h) (length ks) (length ls)
-    pool-room = room h.k h.c (length ks) (length ls) ns Open (sym (ap told front-open)) refl
+    pool-room = room h.k h.c (length ks) (length ls) ns (Ok tt) (sym (ap told front-open)) refl
 
     pub pool-held : Sound h ks ls
     pool-held = record { room = pool-room; good = is-sound }
@@ -109,9 +95,9 @@ module _ (h : Head) (ks : List ℤ) (ls : List ℕ) (ns : ℕ) where
     pub pool-standing : Standing h.k ks ls h.root 0 h.c
     pool-standing = its-standing h ks ls pool-held
 
-  pub pool-refuses : (g : Gate) → g ≡ told (gate (pooled h ks ls ns)) → (r : Refusal) → g ≡ Shut r → gate (pooled h ks ls ns) ≡ some r
+  pub pool-refuses : (g : Gate) → g ≡ told (gate (pooled h ks ls ns)) → (r : Refusal) → g ≡ Err r → gate (pooled h ks ls ns) ≡ some r
   pool-refuses g is r e = told-shut (gate (pooled h ks ls ns)) r (sym is ∙ e)
 
 -- the same rows where no scratch is lent
 pub no-scratch-rows : (h : Head) (ks : List ℤ) (ls : List ℕ) → pooled h ks ls h.c ≡ rows4 h ks ls
-no-scratch-rows h ks ls = ap (λ b. rows3 h.k h.c b ++ ((not (sound h ks ls), Unsound) ∷ [])) (no-scratch h.k h.c ks ls)
+no-scratch-rows h ks ls = ap (λ b. rows3 h.k h.c b ++ judged h ks ls) (no-scratch h.k h.c ks ls)

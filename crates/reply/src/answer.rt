@@ -1,4 +1,4 @@
-// One maker for each kind of answer: every part that a call has no value for is 0.
+// One maker for each kind of answer, over the plain one: every part that a call has no value for is 0.
 ghost use Rattle.std.specs.Prelude.{◌≡◌, ◌≤◌};
 ghost use Rattle.model.specs.Answer as answers;
 ghost use Rattle.model.specs.Book as books;
@@ -51,16 +51,8 @@ pub fn broken(head: Head, line: usize) -> Answer
     ensures { result ≡ answers.refused head line Text }
 {
     Answer {
-        outcome: Outcome::Refused(Refusal::Text),
-        head,
-        entry: Entry { f: [0i64; 4] },
-        slot: 0,
-        reads: 0,
-        distance: 0,
-        count: 0,
-        bytes: 0,
         line,
-        place: 0,
+        ..refused(head, Refusal::Text)
     }
 }
 
@@ -69,16 +61,8 @@ pub fn refused_at(head: Head, place: usize, why: Refusal) -> Answer
     ensures { result ≡ answers.refused_at head place why }
 {
     Answer {
-        outcome: Outcome::Refused(why),
-        head,
-        entry: Entry { f: [0i64; 4] },
-        slot: 0,
-        reads: 0,
-        distance: 0,
-        count: 0,
-        bytes: 0,
-        line: 0,
         place,
+        ..refused(head, why)
     }
 }
 
@@ -87,16 +71,10 @@ pub fn met(head: Head, entry: Entry, slot: usize, reads: usize) -> Answer
     ensures { (e : entries.Entry) → entry ≡ answers.outward e → result ≡ answers.met head e slot reads }
 {
     Answer {
-        outcome: Outcome::Found,
-        head,
         entry,
         slot,
         reads,
-        distance: 0,
-        count: 0,
-        bytes: 0,
-        line: 0,
-        place: 0,
+        ..plain(Outcome::Found, head)
     }
 }
 
@@ -104,16 +82,8 @@ pub fn unmet(head: Head, reads: usize) -> Answer
     ensures { result ≡ answers.unmet head reads }
 {
     Answer {
-        outcome: Outcome::Absent,
-        head,
-        entry: Entry { f: [0i64; 4] },
-        slot: 0,
         reads,
-        distance: 0,
-        count: 0,
-        bytes: 0,
-        line: 0,
-        place: 0,
+        ..plain(Outcome::Absent, head)
     }
 }
 
@@ -122,16 +92,10 @@ pub fn close(head: Head, entry: Entry, slot: usize, distance: u64) -> Answer
     ensures { (e : entries.Entry) → entry ≡ answers.outward e → result ≡ answers.close head e slot distance }
 {
     Answer {
-        outcome: Outcome::Found,
-        head,
         entry,
         slot,
-        reads: 0,
         distance,
-        count: 0,
-        bytes: 0,
-        line: 0,
-        place: 0,
+        ..plain(Outcome::Found, head)
     }
 }
 
@@ -140,16 +104,8 @@ pub fn counted(head: Head, count: usize) -> Answer
     ensures { result ≡ answers.counted head count }
 {
     Answer {
-        outcome: Outcome::Done,
-        head,
-        entry: Entry { f: [0i64; 4] },
-        slot: 0,
-        reads: 0,
-        distance: 0,
         count,
-        bytes: 0,
-        line: 0,
-        place: 0,
+        ..plain(Outcome::Done, head)
     }
 }
 
@@ -158,15 +114,7 @@ pub fn wrote(head: Head, bytes: usize) -> Answer
     ensures { result ≡ answers.wrote head bytes }
 {
     Answer {
-        outcome: Outcome::Done,
-        head,
-        entry: Entry { f: [0i64; 4] },
-        slot: 0,
-        reads: 0,
-        distance: 0,
-        count: 0,
         bytes,
-        line: 0,
-        place: 0,
+        ..plain(Outcome::Done, head)
     }
 }

@@ -17,8 +17,8 @@ use Rattle.model.proofs.Trees.{Ordered, ordered-true, true-ordered}
 use Rattle.cells.specs.Memory.{Rep}
 use Rattle.cells.specs.Orders.{Deeper, named}
 use Rattle.cells.specs.Slots.{left_at, right_at, tall, numbers_of, Slot, Keyed, Room, SlotsCompared}
-use Rattle.cells.specs.declared.order.Order.{Order}
-use Rattle.cells.specs.declared.order.Order.TheVariants.{Less, Equal, Greater}
+use Rattle.std.specs.declared.cmp.Ordering.{Ordering as Order}
+use Rattle.std.specs.declared.cmp.Ordering.TheVariants.{Less, Equal, Greater}
 use Rattle.cells.proofs.Reps.{open-nil}
 use Rattle.cells.proofs.Slots.{numbers-long}
 use Rattle.ask.specs.Standing.{Stands, Standing}
@@ -59,9 +59,6 @@ module _ (K : ℕ) (ks : List ℤ) (side : Side) (h a b : ℕ) (o : Order) (e : 
   sinks : (t : ℕ) → cut_field K t ≡ h → (q : Order) → o ≡ q → cmp t (numbers_of K ks b) (numbers_of K ks a) ≡ flip (back q)
   sinks t c q f = cmp-flip t (numbers_of K ks a) (numbers_of K ks b) ∙ ap flip (rises t c q f)
 
-  pub less-left : o ≡ Less → side ≡ Left → Further K ks side h a b b
-  less-left f g = record { is = λ t c. rw (g, rises t c Less f, nearer) refl }
-
   pub less-right : o ≡ Less → side ≡ Right → Further K ks side h a b a
   less-right f g = record { is = λ t c. rw (g, sinks t c Less f, nearer) refl }
 
@@ -71,9 +68,6 @@ module _ (K : ℕ) (ks : List ℤ) (side : Side) (h a b : ℕ) (o : Order) (e : 
       go : (w : Side) (t : ℕ) → cut_field K t ≡ h → item_in K ks a ≡ nearer (way_of w) t (item_in K ks a) (item_in K ks b)
       go Left t c = rw (rises t c Equal f, nearer) refl
       go Right t c = rw (sinks t c Equal f, nearer) refl
-
-  pub greater-left : o ≡ Greater → side ≡ Left → Further K ks side h a b a
-  greater-left f g = record { is = λ t c. rw (g, rises t c Greater f, nearer) refl }
 
   pub greater-right : o ≡ Greater → side ≡ Right → Further K ks side h a b b
   greater-right f g = record { is = λ t c. rw (g, sinks t c Greater f, nearer) refl }
@@ -107,9 +101,6 @@ module _ (K : ℕ) (ks : List ℤ) (ls : List ℕ) (side : Side) (h : ℕ) where
 
   pub better-none : (best s c : ℕ) → s ≡ 0 → Better K ks ls side h best s c best
   better-none best s c e = record { none = λ z. refl; some = λ t f i l r st. absurd (let a : 1 ≤ i.slot = st.rep.1.some in let b : s ≡ i.slot = st.rep.0 in omega arith) }
-
-  pub better-some : (best s c y x : ℕ) → ¬ (s ≡ 0) → Sought K ks ls side h s c y → Further K ks side h best y x → Better K ks ls side h best s c x
-  better-some best s c y x ne g f = record { none = λ z. absurd (ne z); some = λ t e i l r st. f.is t e ∙ ap (nearer (way_of side) t (item_in K ks best)) (g.is t e i l r st) }
 
   -- a level of another cut: the last of the node, of its left side and of its right side
   pub sought-other : (s c c' l r best x : ℕ) → Deeper K c c' → l ≡ left_at ls s → r ≡ right_at ls s → Better K ks ls side h s l c' best → Better K ks ls side h best r c' x → Sought K ks ls side h s c x
@@ -211,14 +202,23 @@ some s h e = omega arith
 pub none-not : (s : ℕ) → ¬ (s ≡ 0) → 0 < s
 none-not s ne = omega (arith, ne)
 
-pub less_one : (a : ℕ) → 3 * a + 1 < 3 * a + 2
-less_one a = omega arith
-
-pub less-all : (a : ℕ) → 3 * a < 3 * a + 1
-less-all a = omega arith
-
-pub less-child : (a b : ℕ) → a < b → 3 * a + 2 < 3 * b
-less-child a b h = omega arith
-
 pub less-far : (a b : ℕ) → a < b → 3 * a + 1 < 3 * b
 less-far a b h = omega arith
+
+-- what a level asks, where a tree stands at s
+module _ {S : Shape} {ks : List ℤ} {ls : List ℕ} {s c most : ℕ} (m : Room S (length ks) (length ls)) (h : 0 < s) (g : Standing S.k ks ls s c most) where
+  pub here : Slot (length ls) s
+  here = standing.slot-here S ks ls s c most m (some s h) g
+
+  pub in-pool : InPool S.c s
+  in-pool = (h, standing.pooled S ks ls s c most m (some s h) g)
+
+  pub lower-call : {c' l : ℕ} → Deeper S.k c c' → l ≡ left_at ls s → (3 * tall ls l + 2 < 3 * tall ls s) × Standing S.k ks ls l c' most
+  lower-call {c'} d e =
+      let f = standing.left-falls S.k ks ls s c (some s h) g.tree g.stands in
+      rw e (omega arith, standing.standing-left S ks ls s c most m (some s h) g c' d)
+
+  pub upper-call : {c' r : ℕ} → Deeper S.k c c' → r ≡ right_at ls s → (3 * tall ls r + 2 < 3 * tall ls s) × Standing S.k ks ls r c' most
+  upper-call {c'} d e =
+      let f = standing.right-falls S.k ks ls s c (some s h) g.tree g.stands in
+      rw e (omega arith, standing.standing-right S ks ls s c most m (some s h) g c' d)

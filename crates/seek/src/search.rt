@@ -6,8 +6,8 @@ ghost use Rattle.ask.specs.Standing.{Standing};
 ghost use Rattle.seek.specs.Seeks.{Better, Further, Sought};
 
 use crate::side::Side;
-use cells::order::Order;
 use model::Shape;
+use std::cmp::Ordering;
 
 // The last towards an entry whose cut is `home`, in the tree at s, which is cut at `cut`. The two kinds of level take turns.
 #[cycle(best_of_seek_seek_other_seek_same)]
@@ -46,7 +46,7 @@ pub fn seek_same(
     requires standing { Standing shape.k keys.now links.now s cut shape.c }
     ensures { Sought shape.k keys.now links.now side home s cut result }
 {
-    let far = crate::side::child_of(links, s, crate::side::other(side));
+    let far = side.other().child_of(links, s);
     if far == 0 {
         return s;
     }
@@ -105,16 +105,9 @@ pub fn further(keys: &[i64], shape: Shape, side: Side, home: usize, a: usize, b:
     requires keyed { Keyed shape.k (length keys.now) a × Keyed shape.k (length keys.now) b }
     ensures { Further shape.k keys.now side home a b result }
 {
-    let o = cells::slot::compare_slots(keys, shape, a, b, home);
-    match o {
-        Order::Less => match side {
-            Side::Left => b,
-            Side::Right => a,
-        },
-        Order::Equal => a,
-        Order::Greater => match side {
-            Side::Left => a,
-            Side::Right => b,
-        },
+    match (cells::slot::compare_slots(keys, shape, a, b, home), side) {
+        (Ordering::Less, Side::Left) | (Ordering::Greater, Side::Right) => b,
+        (Ordering::Less, Side::Right) | (Ordering::Greater, Side::Left) => a,
+        (Ordering::Equal, _) => a,
     }
 }

@@ -10,35 +10,39 @@ pub enum Side {
     Right,
 }
 
-pub fn other(side: Side) -> Side
-    ensures { result ≡ other_of side }
-{
-    match side {
-        Side::Left => Side::Right,
-        Side::Right => Side::Left,
+impl Side {
+    // The other of the two.
+    pub fn other(self) -> Side
+        ensures { result ≡ other_of self }
+    {
+        match self {
+            Side::Left => Side::Right,
+            Side::Right => Side::Left,
+        }
     }
-}
 
-// The child on a side.
-pub fn child_of(links: &[usize], s: usize, side: Side) -> usize
-    requires { Slot (length links.now) s }
-    ensures { result ≡ child_at links.now s side }
-{
-    match side {
-        Side::Left => cells::slot::left_of(links, s),
-        Side::Right => cells::slot::right_of(links, s),
+    // The child on this side; 0 is no slot, as the links are laid out in lent memory, which C shares.
+    pub fn child_of(self, links: &[usize], s: usize) -> usize
+        requires { Slot (length links.now) s }
+        ensures { result ≡ child_at links.now s self }
+    {
+        match self {
+            Side::Left => cells::slot::left_of(links, s),
+            Side::Right => cells::slot::right_of(links, s),
+        }
     }
-}
 
-// The side of the higher child; at equal heights the right one.
-pub fn higher(links: &[usize], s: usize) -> Side
-    requires { Slot (length links.now) s × ((3 * left_at links.now s ≤ length links.now) × (3 * right_at links.now s ≤ length links.now)) }
-    ensures { result ≡ higher_of (tall links.now (left_at links.now s)) (tall links.now (right_at links.now s)) }
-{
-    let l = cells::slot::left_of(links, s);
-    let r = cells::slot::right_of(links, s);
-    if cells::slot::height_of(links, r) < cells::slot::height_of(links, l) {
-        return Side::Left;
+    // The side of the higher child; at equal heights the right one.
+    pub fn higher(links: &[usize], s: usize) -> Side
+        requires { Slot (length links.now) s × ((3 * left_at links.now s ≤ length links.now) × (3 * right_at links.now s ≤ length links.now)) }
+        ensures { result ≡ higher_of (tall links.now (left_at links.now s)) (tall links.now (right_at links.now s)) }
+    {
+        let l = cells::slot::left_of(links, s);
+        let r = cells::slot::right_of(links, s);
+        if cells::slot::height_of(links, r) < cells::slot::height_of(links, l) {
+            Side::Left
+        } else {
+            Side::Right
+        }
     }
-    Side::Right
 }

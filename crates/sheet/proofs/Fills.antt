@@ -1,6 +1,6 @@
 -- A box written to a room: its slots, ranked, and their numbers.
 use mathlib.Core.Path.{◌≡◌, refl, sym, ap, ◌∙◌}
-use mathlib.Core.Bool.{Bool, true, false, true≢false, false≢true}
+use mathlib.Core.Bool.{Bool, true, false}
 use mathlib.Core.List.{List, [], ◌∷◌, ◌++◌}
 use Prim.Native.Nat.{ℕ, ◌-◌, ◌*◌, ◌^◌, ◌≤◌, ◌<◌}
 use native.Mathlib.Omega.{arith}
@@ -24,7 +24,9 @@ use Rattle.ask.proofs.Boxed.{boxed-few}
 use Rattle.ask.proofs.Walks.{keyed-in}
 use Rattle.rank.specs.Ranking.{items_at, InTable, InTables, Ranked}
 use Rattle.rank.proofs.Merging.{cut-here, ranked-in}
+use Rattle.std.specs.Prelude.{Result, Ok, Err}
 use Rattle.sheet.specs.Listing.{numbers_in, ranked_in, FilledWith}
+use Rattle.sheet.specs.declared.listing.TooMany.{TooMany}
 
 -- each slot of a tree that lies in the tables is one of theirs
 pub rep-tables : (S : Shape) (ks : List ℤ) (ls : List ℕ) → Room S (length ks) (length ls) → (s : ℕ) (u : Tree) → Rep S.k ks ls s u → InTables S.k (length ks) (slots u)
@@ -56,8 +58,8 @@ module _ (S : Shape) (ks : List ℤ) (ls : List ℕ) (root : ℕ) (bs : List Bou
   fill_walks xs l = ((m, (let k = m.k_low in omega arith)), (omega arith, record { tree = st.tree; stands = st.stands; few = let f = st.few in omega arith }))
 
   -- the same over the front of a list that is long enough
-  pub front-walks : (xs : List ℕ) → S.c ≤ length xs → (Room S (length ks) (length ls) × (0 < S.k)) × ((0 ≤ length (take S.c xs)) × Standing S.k ks ls root 0 (length (take S.c xs) - 0))
-  front-walks xs l = fill_walks (take S.c xs) (length-take-le S.c xs l)
+  pub front-walks : (xs : List ℕ) (n : ℕ) → n ≡ S.c → n ≤ length xs → (0 ≤ length (take n xs)) × Standing S.k ks ls root 0 (length (take n xs) - 0)
+  front-walks xs n e l = (fill_walks (take n xs) (length-take-le n xs l ∙ e)).1
 
   -- the walk left the slots of the box in front
   module _ (xs ys : List ℕ) (n : ℕ) (lx : length xs ≡ S.c) (ly : length ys ≡ length xs) (w : Collected S.k ks ls root 0 bs xs ys 0 n) where
@@ -89,29 +91,35 @@ module _ (S : Shape) (ks : List ℤ) (ls : List ℕ) (root : ℕ) (bs : List Bou
     pub fill-ranks : (zs : List ℕ) → length zs ≡ S.c → (((0 < S.k) × (S.k ≤ 4)) × (length (take n zs) ≡ length (take n ys))) × InTables S.k (length ks) (take n ys)
     fill-ranks zs l = ((((let k = m.k_low in omega arith), m.k_high), fill-taken zs l ∙ sym (fill-taken ys (ly ∙ lx))), in_tables)
 
-    pub fill-short : (room : List ℤ) → length room < S.k * n → FilledWith S.k ks ls root bs room room (record { count = n; fits = false })
-    fill-short room h = record { many = many; long = λ e. absurd (false≢true e); short = λ _. h; written = λ e. absurd (false≢true e); kept = λ _. refl }
+    pub fill-short : (room : List ℤ) → length room < S.k * n → FilledWith S.k ks ls root bs room room (Err (record { count = n }))
+    fill-short room h = record { many = many; long = λ a e. clash e; short = λ t e. (let q : n ≡ t.count = cc in rw (← q) h); written = λ a e. clash e; kept = λ t e. refl }
+      where
+        clash : {P : Type 0} {a : ℕ} → ◌≡◌ {A = Result ℕ TooMany} (Err (record { count = n })) (Ok a) → P
+        clash e = let z : ◌≡◌ {A = ℕ} 0 1 = cc in absurd (omega arith)
 
     -- ranking left them in listing order
     module _ (zs : List ℕ) (lz : length zs ≡ length (take n ys)) (r : Ranked S.k ks 0 (take n ys) zs) where
-      pub back-part : n ≤ length (zs ++ drop n ys)
-      back-part = let a = length-append zs (drop n ys) in let b = fill-taken ys (ly ∙ lx) in omega arith
+      ranked-many : length zs ≡ n
+      ranked-many = lz ∙ fill-taken ys (ly ∙ lx)
 
-      same : take n (zs ++ drop n ys) ≡ zs
-      same = take_at zs (drop n ys) n (lz ∙ fill-taken ys (ly ∙ lx))
+      back-tables : InTables S.k (length ks) zs
+      back-tables = ranked-in S.k ks 0 (length ks) (take n ys) zs (let k = m.k_low in omega arith) r in_tables
 
-      pub back-taken : n ≡ length (take n (zs ++ drop n ys))
-      back-taken = sym (length-take-le n (zs ++ drop n ys) back-part)
+      pub fill-writes : (room : List ℤ) → S.k * n ≤ length room → ((S.k ≤ 4) × ((length zs ≤ 4096) × (S.k * length zs ≤ length room))) × InTables S.k (length ks) zs
+      fill-writes room h = ((m.k_high, ((let a = ranked-many in let b = fill-few in let d = m.c_high in omega arith), rw ranked-many h)), back-tables)
 
-      back-tables : InTables S.k (length ks) (take n (zs ++ drop n ys))
-      back-tables = rw same (ranked-in S.k ks 0 (length ks) (take n ys) zs (let k = m.k_low in omega arith) r in_tables)
-
-      pub fill-writes : (room : List ℤ) → S.k * n ≤ length room → ((S.k ≤ 4) × ((length (take n (zs ++ drop n ys)) ≤ 4096) × (S.k * length (take n (zs ++ drop n ys)) ≤ length room))) × InTables S.k (length ks) (take n (zs ++ drop n ys))
-      fill-writes room h = ((m.k_high, ((let a = back-taken in let b = fill-few in let d = m.c_high in omega arith), rw (← back-taken) h)), back-tables)
-
-      pub fill-long : (room room' : List ℤ) → S.k * n ≤ length room → room' ≡ sets room 0 (numbers_in S.k ks (take n (zs ++ drop n ys))) → FilledWith S.k ks ls root bs room room' (record { count = n; fits = true })
+      pub fill-long : (room room' : List ℤ) → S.k * n ≤ length room → room' ≡ sets room 0 (numbers_in S.k ks zs) → FilledWith S.k ks ls root bs room room' (Ok n)
       fill-long room room' h e =
-          let q : length (numbers_in S.k ks (take n (zs ++ drop n ys))) ≡ S.k * n = numbers-many S.k ks (take n (zs ++ drop n ys)) back-tables ∙ ap (λ (x : ℕ). S.k * x) (sym back-taken) in
-          let p : room' ≡ numbers_in S.k ks (take n (zs ++ drop n ys)) ++ drop (S.k * n) room = e ∙ front-sets (numbers_in S.k ks (take n (zs ++ drop n ys))) room (omega arith) ∙ ap (λ (x : ℕ). numbers_in S.k ks (take n (zs ++ drop n ys)) ++ drop x room) q in
-          let z : (u : Tree) → Stands S.k ks ls root 0 u → take n (zs ++ drop n ys) ≡ ranked_in S.k ks bs u = λ u s. same ∙ r.at 0 (cut-here S.k 0 (let k = m.k_low in omega arith)) ∙ ap (λ (x : List ℕ). slots_of (rank 0 (items_at S.k ks x))) (in-front u s) in
-          record { many = many; long = λ _. h; short = λ f. absurd (true≢false f); written = λ _ u s. p ∙ ap (λ (x : List ℕ). numbers_in S.k ks x ++ drop (S.k * n) room) (z u s); kept = λ f. absurd (true≢false f) }
+          let q : length (numbers_in S.k ks zs) ≡ S.k * n = numbers-many S.k ks zs back-tables ∙ ap (λ (x : ℕ). S.k * x) ranked-many in
+          let p : room' ≡ numbers_in S.k ks zs ++ drop (S.k * n) room = e ∙ front-sets (numbers_in S.k ks zs) room (omega arith) ∙ ap (λ (x : ℕ). numbers_in S.k ks zs ++ drop x room) q in
+          let z : (u : Tree) → Stands S.k ks ls root 0 u → zs ≡ ranked_in S.k ks bs u = λ u s. r.at 0 (cut-here S.k 0 (let k = m.k_low in omega arith)) ∙ ap (λ (x : List ℕ). slots_of (rank 0 (items_at S.k ks x))) (in-front u s) in
+          record {
+            many = many;
+            long = λ a f. (let t : n ≡ a = cc in rw (← t) h);
+            short = λ t f. clash f;
+            written = λ a f u s. (let t : n ≡ a = cc in rw (← t) (p ∙ ap (λ (x : List ℕ). numbers_in S.k ks x ++ drop (S.k * n) room) (z u s)));
+            kept = λ t f. clash f;
+          }
+        where
+          clash : {P : Type 0} {t : TooMany} → ◌≡◌ {A = Result ℕ TooMany} (Ok n) (Err t) → P
+          clash e = let z : ◌≡◌ {A = ℕ} 0 1 = cc in absurd (omega arith)

@@ -1,6 +1,5 @@
 -- The text of some slots, a line at a time: counted and written.
 use mathlib.Core.Path.{◌≡◌, refl, sym, ap, subst, ◌∙◌}
-use mathlib.Core.Bool.{true, false, true≢false, false≢true}
 use mathlib.Core.List.{List, [], ◌∷◌, ◌++◌, append_assoc}
 use Prim.Native.Nat.{ℕ, suc, ◌+◌, ◌-◌, ◌≤◌, ◌<◌}
 use native.Mathlib.Omega.{arith}
@@ -16,6 +15,7 @@ use Rattle.cells.proofs.Slots.{numbers-long, part_at}
 use Rattle.print.specs.Place.{written, Puts}
 use Rattle.print.proofs.Places.{written_none, written-join, written-length}
 use Rattle.rank.specs.Ranking.{items_at, InTable}
+use Rattle.std.specs.declared.option.Option.TheVariants.{Some, None}
 use Rattle.sheet.specs.Saving.{text_in, Measured}
 
 -- the first line, the line of a slot, and the lines of some slots
@@ -61,6 +61,9 @@ module _ (K : ℕ) (ks : List ℤ) where
 
   -- ---- `measure`
 
+  clash : {P : Type 0} {b : ℕ} → None ≡ Some b → P
+  clash f = let z : ◌≡◌ {A = ℕ} 0 1 = cc in absurd (omega arith)
+
   abbrev pub Counted : List ℕ → ℕ → ℕ → ℕ → Type 0
   Counted ss most bytes i = (bytes ≤ most) × ((i ≤ length ss) × (bytes + length (lines_in K ks (drop i ss)) ≡ length (text_in K ks ss)))
 
@@ -68,17 +71,17 @@ module _ (K : ℕ) (ks : List ℤ) where
     pub count-starts : (n : ℕ) → n ≡ length (title K (length ss)) + 1 → n ≤ most → Counted ss most n 0
     count-starts n e h = (h, (omega arith, text-long ss n e))
 
-    pub title-over : (n : ℕ) → n ≡ length (title K (length ss)) + 1 → most < n → Measured (text_in K ks ss) most (record { bytes = n; fits = false })
-    title-over n e h = let a = text-long ss n e in record { bytes = λ f. absurd (false≢true f); long = λ f. absurd (false≢true f); short = λ _. omega arith }
+    pub title-over : (n : ℕ) → n ≡ length (title K (length ss)) + 1 → most < n → Measured (text_in K ks ss) most None
+    title-over n e h = let a = text-long ss n e in record { bytes = λ b f. clash f; long = λ b f. clash f; short = λ _. omega arith }
 
     module _ (bytes i : ℕ) (inv : Counted ss most bytes i) where
-      pub count-ends : length ss ≤ i → Measured (text_in K ks ss) most (record { bytes = bytes; fits = true })
+      pub count-ends : length ss ≤ i → Measured (text_in K ks ss) most (Some bytes)
       count-ends h =
           let a : length (lines_in K ks (drop i ss)) ≡ 0 = ap length (lines-gone ss i h) in
           let b = inv.1.1 in
           let e : bytes ≡ length (text_in K ks ss) = omega arith in
           let m = inv.0 in
-          record { bytes = λ _. e; long = λ _. omega arith; short = λ f. absurd (true≢false f) }
+          record { bytes = λ b f. (let q : bytes ≡ b = cc in sym q ∙ e); long = λ _ _. omega arith; short = λ f. clash (sym f) }
 
       module _ (h : i < length ss) (n : ℕ) (e : n ≡ length (pairs 97 (numbers_of K ks (get_or ss i 0))) + 1) where
         pub count-goes : n ≤ most - bytes → Counted ss most (bytes + n) (i + 1)
@@ -88,12 +91,12 @@ module _ (K : ℕ) (ks : List ℤ) where
             let m = inv.0 in
             (omega arith, (omega arith, (let r : bytes + n + length (lines_in K ks (drop (i + 1) ss)) ≡ length (text_in K ks ss) = omega arith in r)))
 
-        pub count-over : most - bytes < n → Measured (text_in K ks ss) most (record { bytes = bytes; fits = false })
+        pub count-over : most - bytes < n → Measured (text_in K ks ss) most None
         count-over l =
             let a = lines_long ss i h n e in
             let b = inv.1.1 in
             let m = inv.0 in
-            record { bytes = λ f. absurd (false≢true f); long = λ f. absurd (false≢true f); short = λ _. omega arith }
+            record { bytes = λ b f. clash f; long = λ b f. clash f; short = λ _. omega arith }
 
   -- ---- `write_text`
 

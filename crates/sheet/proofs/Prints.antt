@@ -1,11 +1,10 @@
 -- The book written to a room: its slots gathered and ranked, and their text.
 use mathlib.Core.Path.{◌≡◌, refl, sym, ap, subst, ◌∙◌}
-use mathlib.Core.Bool.{true, false, true≢false}
 use mathlib.Core.List.{List, ◌++◌}
 use Prim.Native.Nat.{ℕ, ◌+◌, ◌-◌, ◌≤◌, ◌<◌}
 use native.Mathlib.Omega.{arith}
 use native.Mathlib.Nat.{zero-add}
-use lib.ListN.{length, take, drop, length-append}
+use lib.ListN.{length, take, drop}
 use lib.Seq.{length-take-le, take_at}
 use lib.IntN.{ℤ}
 use Rattle.model.specs.Tree.{Item, Tree, items, slots_of, entries_of}
@@ -23,7 +22,8 @@ use Rattle.build.specs.Rebuilding.{Fitting, Gathered}
 use Rattle.rank.proofs.Merging.{cut-here, ranked-in, rank-items, ranked-slots}
 use Rattle.build.proofs.Shapes.{items-held}
 use Rattle.sheet.specs.Saving.{text_in, Measured, PrintedWith}
-use Rattle.sheet.specs.declared.saving.Printed.{Printed}
+use Rattle.std.specs.declared.option.Option.{Option}
+use Rattle.std.specs.declared.option.Option.TheVariants.{Some, None}
 use Rattle.sheet.proofs.Fills.{rep-tables}
 
 -- ranked slots of a tree that lies in memory are its entries in listing order
@@ -64,31 +64,25 @@ module _ (S : Shape) (ks : List ℤ) (ls : List ℕ) (root : ℕ) (m : Room S (l
 
     -- ranking left them in listing order
     module _ (zs : List ℕ) (lz : length zs ≡ length (take n ys)) (r : Ranked S.k ks 0 (take n ys) zs) where
-      pub back-part : n ≤ length (zs ++ drop n ys)
-      back-part = let a = length-append zs (drop n ys) in let b = print-taken ys (ly ∙ lx) in omega arith
+      pub print-reads : (S.k ≤ 4) × InTables S.k (length ks) zs
+      print-reads = (m.k_high, ranked-in S.k ks 0 (length ks) (take n ys) zs (let k = m.k_low in omega arith) r in_tables)
 
-      same : take n (zs ++ drop n ys) ≡ zs
-      same = take_at zs (drop n ys) n (lz ∙ print-taken ys (ly ∙ lx))
-
-      pub back-taken : n ≡ length (take n (zs ++ drop n ys))
-      back-taken = sym (length-take-le n (zs ++ drop n ys) back-part)
-
-      pub print-reads : (S.k ≤ 4) × InTables S.k (length ks) (take n (zs ++ drop n ys))
-      print-reads = (m.k_high, rw same (ranked-in S.k ks 0 (length ks) (take n ys) zs (let k = m.k_low in omega arith) r in_tables))
-
-      text-of : (u : Tree) → Stands S.k ks ls root 0 u → text_in S.k ks (take n (zs ++ drop n ys)) ≡ text_of S.k (listing u)
+      text-of : (u : Tree) → Stands S.k ks ls root 0 u → text_in S.k ks zs ≡ text_of S.k (listing u)
       text-of u s =
-          let z : take n (zs ++ drop n ys) ≡ slots_of (rank 0 (items_at S.k ks (slots u))) = same ∙ r.at 0 (cut-here S.k 0 (let k = m.k_low in omega arith)) ∙ ap (λ (x : List ℕ). slots_of (rank 0 (items_at S.k ks x))) (in-front u s.rep) in
+          let z : zs ≡ slots_of (rank 0 (items_at S.k ks (slots u))) = r.at 0 (cut-here S.k 0 (let k = m.k_low in omega arith)) ∙ ap (λ (x : List ℕ). slots_of (rank 0 (items_at S.k ks x))) (in-front u s.rep) in
           ap (text_in S.k ks) z ∙ ranked-text S.k ks ls root u s.rep
 
-      module _ (room : List ℕ) (p : Printed) (e : Measured (text_in S.k ks (take n (zs ++ drop n ys))) (length room) p) where
+      module _ (room : List ℕ) (p : Option ℕ) (e : Measured (text_in S.k ks zs) (length room) p) where
         measured : (u : Tree) → Stands S.k ks ls root 0 u → Measured (text_of S.k (listing u)) (length room) p
         measured u s = subst (λ (t : List ℕ). Measured t (length room) p) (text-of u s) e
 
-        pub print-short : p.fits ≡ false → PrintedWith S.k ks ls root room room p
-        print-short f = record { measured = measured; written = λ t. absurd (true≢false (sym t ∙ f)); kept = λ _. refl }
+        clash : {P : Type 0} {b : ℕ} → None ≡ Some b → P
+        clash f = let z : ◌≡◌ {A = ℕ} 0 1 = cc in absurd (omega arith)
 
-        pub print-long : p.fits ≡ true → (room' : List ℕ) → room' ≡ written room 0 (text_in S.k ks (take n (zs ++ drop n ys))) → PrintedWith S.k ks ls root room room' p
-        print-long f room' q =
-            let z : (t : List ℕ) → text_in S.k ks (take n (zs ++ drop n ys)) ≡ t → room' ≡ t ++ drop (length t) room = λ t x. q ∙ ap (written room 0) x ∙ ap (λ (j : ℕ). t ++ drop j room) (zero-add (length t)) in
-            record { measured = measured; written = λ _ u s. z (text_of S.k (listing u)) (text-of u s); kept = λ t. absurd (true≢false (sym f ∙ t)) }
+        pub print-short : p ≡ None → PrintedWith S.k ks ls root room room p
+        print-short f = record { measured = measured; written = λ b t. clash (sym f ∙ t); kept = λ _. refl }
+
+        pub print-long : (b : ℕ) → p ≡ Some b → (room' : List ℕ) → room' ≡ written room 0 (text_in S.k ks zs) → PrintedWith S.k ks ls root room room' p
+        print-long b f room' q =
+            let z : (t : List ℕ) → text_in S.k ks zs ≡ t → room' ≡ t ++ drop (length t) room = λ t x. q ∙ ap (written room 0) x ∙ ap (λ (j : ℕ). t ++ drop j room) (zero-add (length t)) in
+            record { measured = measured; written = λ _ _ u s. z (text_of S.k (listing u)) (text-of u s); kept = λ t. clash (sym t ∙ f) }

@@ -8,11 +8,10 @@ ghost use Rattle.sheet.specs.Listing.{numbers_in, FilledWith};
 
 use model::{Bound, Shape};
 
-// How many entries a box has, and whether they found room.
+// So many entries that the room does not hold them.
 #[derive(Clone, Copy)]
-pub struct Filled {
+pub struct TooMany {
     pub count: usize,
-    pub fits: bool,
 }
 
 // The room is laid out as a key table is, so an entry is put into its place as into a slot.
@@ -21,11 +20,9 @@ pub fn write_entries(keys: &[i64], shape: Shape, slots: &[usize], room: &mut [i6
     requires in_tables { InTables shape.k (length keys.now) slots.now }
     ensures { room.new ≡ sets room.old 0 (numbers_in shape.k keys.now slots.now) }
 {
-    let mut i: usize = 0;
-    while i < slots.len() {
-        let e = cells::slot::entry_at(keys, shape, slots[i]);
-        i += 1;
-        cells::slot::put_entry(room, shape, i, e);
+    for (i, s) in slots.iter().enumerate() {
+        let e = cells::slot::entry_at(keys, shape, *s);
+        cells::slot::put_entry(room, shape, i + 1, e);
     }
 }
 
@@ -39,24 +36,18 @@ pub fn fill(
     slots: &mut [usize],
     spare: &mut [usize],
     room: &mut [i64],
-) -> Filled
+) -> Result<usize, TooMany>
     requires room { Room shape (length keys.now) (length links.now) }
     requires slots_len { (length slots.old ≡ shape.c) × (length spare.old ≡ shape.c) }
     requires standing { Standing shape.k keys.now links.now root 0 shape.c }
     ensures { FilledWith shape.k keys.now links.now root bounds room.old room.new result }
 {
-    let k = shape.k;
     let n = ask::boxes::collect(shape, root, 0, bounds, keys, links, slots, 0);
-    if room.len() < k * n {
-        return Filled {
-            count: n,
-            fits: false,
-        };
+    if room.len() < shape.k * n {
+        return Err(TooMany { count: n });
     }
-    rank::merge::rank(keys, shape, 0, &mut slots[..n], &mut spare[..n]);
-    write_entries(keys, shape, &slots[..n], room);
-    Filled {
-        count: n,
-        fits: true,
-    }
+    let boxed = &mut slots[..n];
+    rank::merge::rank(keys, shape, 0, boxed, &mut spare[..n]);
+    write_entries(keys, shape, boxed, room);
+    Ok(n)
 }

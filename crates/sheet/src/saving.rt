@@ -9,13 +9,6 @@ ghost use Rattle.sheet.specs.Saving.{text_in, Measured, PrintedWith};
 
 use model::Shape;
 
-// How many bytes a text has, where it fits into the room.
-#[derive(Clone, Copy)]
-pub struct Printed {
-    pub bytes: usize,
-    pub fits: bool,
-}
-
 // How many bytes the line of a slot has.
 pub fn slot_length(keys: &[i64], shape: Shape, s: usize) -> usize
     requires { (shape.k ≤ 4) × InTable shape.k (length keys.now) s }
@@ -39,25 +32,23 @@ pub fn put_slot(keys: &[i64], shape: Shape, s: usize, room: &mut [u8], at: usize
     print::put_line(room, at, &keys[i..z])
 }
 
-// The length of the text of ranked slots, counted as long as it fits.
-pub fn measure(keys: &[i64], shape: Shape, slots: &[usize], most: usize) -> Printed
+// The length of the text of ranked slots, counted as long as it fits; none where it does not.
+pub fn measure(keys: &[i64], shape: Shape, slots: &[usize], most: usize) -> Option<usize>
     requires { (shape.k ≤ 4) × InTables shape.k (length keys.now) slots.now }
     ensures { Measured (text_in shape.k keys.now slots.now) most result }
 {
     let mut bytes = print::title_length(shape.k, slots.len());
     if most < bytes {
-        return Printed { bytes, fits: false };
+        return None;
     }
-    let mut i: usize = 0;
-    while i < slots.len() {
-        let line = slot_length(keys, shape, slots[i]);
+    for s in slots {
+        let line = slot_length(keys, shape, *s);
         if most - bytes < line {
-            return Printed { bytes, fits: false };
+            return None;
         }
         bytes += line;
-        i += 1;
     }
-    Printed { bytes, fits: true }
+    Some(bytes)
 }
 
 // The text of ranked slots.
@@ -67,14 +58,12 @@ pub fn write_text(keys: &[i64], shape: Shape, slots: &[usize], room: &mut [u8])
     ensures { room.new ≡ written room.old 0 (text_in shape.k keys.now slots.now) }
 {
     let mut to = print::put_title(room, 0, shape.k, slots.len());
-    let mut i: usize = 0;
-    while i < slots.len() {
-        to = put_slot(keys, shape, slots[i], room, to);
-        i += 1;
+    for s in slots {
+        to = put_slot(keys, shape, *s, room, to);
     }
 }
 
-// Writes the text of the book to the room, where it fits; slots and spare are as long as the pool has slots.
+// Writes the text of the book to the room, where it fits, and tells its length; slots and spare are as long as the pool has slots.
 pub fn print(
     keys: &[i64],
     links: &[usize],
@@ -83,18 +72,16 @@ pub fn print(
     slots: &mut [usize],
     spare: &mut [usize],
     room: &mut [u8],
-) -> Printed
+) -> Option<usize>
     requires room { Room shape (length keys.now) (length links.now) }
     requires slots_len { (length slots.old ≡ shape.c) × (length spare.old ≡ shape.c) }
     requires standing { Standing shape.k keys.now links.now root 0 shape.c }
     ensures { PrintedWith shape.k keys.now links.now root room.old room.new result }
 {
     let n = build::gather::gather(links, root, slots, 0);
-    rank::merge::rank(keys, shape, 0, &mut slots[..n], &mut spare[..n]);
-    let p = measure(keys, shape, &slots[..n], room.len());
-    if p.fits {
-        write_text(keys, shape, &slots[..n], room);
-        return p;
-    }
-    p
+    let all = &mut slots[..n];
+    rank::merge::rank(keys, shape, 0, all, &mut spare[..n]);
+    let bytes = measure(keys, shape, all, room.len())?;
+    write_text(keys, shape, all, room);
+    Some(bytes)
 }

@@ -46,13 +46,6 @@ pub place_in : (d : Side) (c : ℕ) → c < 4 → place d c < 8
 place_in low c h = omega arith
 place_in high c h = let z : 4 + c < 8 = omega arith in z
 
-pub set-fits : (C : ℕ) (bs : List ℕ) (i s : ℕ) → i < length bs → BoundsIn C bs → s ≤ C → BoundsIn C (set bs i s)
-set-fits C bs i s h f g = record { fits = λ j. go j (same j i) }
-  where
-    go : (j : ℕ) → Dec (j ≡ i) → get_or (set bs i s) j 0 ≤ C
-    go j (yes q) = rw (q, get_or-set_same bs i s 0 h) g
-    go j (no q) = rw (get_or-set_other bs i j s 0 q) (f.fits j)
-
 module _ (K : ℕ) (ks : List ℤ) (bs : List ℕ) (cut s : ℕ) (d : Side) (some : 1 ≤ K) (four : K ≤ 4) (lt : cut < K) (eight : length bs ≡ 8) (ne : ¬ (s ≡ 0)) where
   abbrev bs' : List ℕ
   bs' = set bs (place d cut) s

@@ -1,58 +1,27 @@
 -- The edges: what is amid them is inside the bounds, and one set with its bound.
 use mathlib.Core.Path.{◌≡◌, refl, sym, ◌∙◌}
-use mathlib.Core.Bool.{Bool, true, false}
+use mathlib.Core.Bool.{Bool, true}
 use mathlib.Core.List.{List}
 use Prim.Native.Nat.{Ordering}
-use Prim.Native.Nat.{ℕ, ◌+◌, ◌≤◌, ◌<◌}
+use Prim.Native.Nat.{ℕ, ◌≤◌, ◌<◌}
 use native.Mathlib.Omega.{arith}
-use native.Mathlib.Decide.{dec_lt}
 use lib.ListN.{length, get_or, set, length-set, replicate}
-use lib.Seq.{get_or-set_same, get_or-set_other}
+use lib.Seq.{drop-cons, get_or-set_same, get_or-set_other}
 use lib.IntN.{ℤ, pos}
-use lib.Signed.{lt_z}
-use mir.Syntax.{w64}
-use mir.Val.{to_z, of_z, SFits}
-use Rattle.model.specs.Entry.{Entry, cut_field}
+use Rattle.model.specs.Entry.{Entry, cmp, cut_field, lex, super_key}
 use Rattle.model.specs.Number.{order}
 use Rattle.model.specs.declared.Shape.{Shape}
 use Rattle.cells.specs.Slots.{Room, Slot, numbers_of}
 use Rattle.cells.proofs.Slots.{numbers-long}
 use Rattle.sound.specs.Parts.{Tells}
-use Rattle.sound.specs.Tree.{Side, low, high, place, Beyond, Within, Inside, BoundsIn, Between, Amid, Edged}
-use Rattle.sound.proofs.Marks.{cut_below, is-keyed, slot-long, tells-no, tells-yes}
-use Rattle.sound.proofs.Fields.{ahead, less-told}
+use Rattle.sound.specs.Tree.{Side, low, high, place, Beyond, Within, Inside, BoundsIn, Amid, Edged}
+use Rattle.sound.proofs.Marks.{cut_below, is-keyed, slot-long, tells-yes}
 use Rattle.sound.proofs.Bounds.{place_in, place-one, same, zeros-at}
 
--- ---- `between`: two signed tests
-
-module _ (a x b : ℤ) (fa : SFits w64 a) (fx : SFits w64 x) where
-  above : Tells (order a x ≡ Ordering.lt) (lt_z (to_z w64 (of_z w64 a)) (to_z w64 (of_z w64 x)))
-  above = less-told a x fa.sfits fx.sfits
-
-  pub between_more : lt_z (to_z w64 (of_z w64 a)) (to_z w64 (of_z w64 x)) ≡ true → SFits w64 b → Tells (Between a x b) (lt_z (to_z w64 (of_z w64 x)) (to_z w64 (of_z w64 b)))
-  between_more t fb = let v = less-told x b fx.sfits fb.sfits in record { good = λ g. (above.good t, v.good g); bad = λ g w. v.bad g w.1 }
-
-  pub between-not : lt_z (to_z w64 (of_z w64 a)) (to_z w64 (of_z w64 x)) ≡ false → Tells (Between a x b) false
-  between-not t = tells-no (Between a x b) (λ w. above.bad t w.0)
-
--- ---- `amid`: i fields are between their edges
-
-pub amid-none : (es : List ℤ) (e : Entry) → Amid 0 es e
-amid-none es e = record { between = λ c h. absurd (omega arith) }
-
-module _ (K : ℕ) (es : List ℤ) (e : Entry) (i : ℕ) (lt : i < K) (a x b : ℤ) (ea : a ≡ get_or es i (pos 0)) (ex : x ≡ get_or e i (pos 0)) (eb : b ≡ get_or es (4 + i) (pos 0)) (o : Bool) (v : Tells (Between a x b) o) where
-  pub amid-not : o ≡ false → Tells (Amid K es e) false
-  amid-not t = tells-no (Amid K es e) (λ y. v.bad t (rw (ea, ex, eb) (y.between i lt)))
-
-  pub amid-on : o ≡ true → Amid i es e → Amid (i + 1) es e
-  amid-on t y = record { between = λ c h. go c h (dec_lt c i) }
-    where
-      go : (c : ℕ) → c < i + 1 → Dec (c < i) → Between (get_or es c (pos 0)) (get_or e c (pos 0)) (get_or es (4 + c) (pos 0))
-      go c h (yes q) = y.between c q
-      go c h (no q) = let z : c ≡ i = omega arith in rw (z, ← ea, ← ex, ← eb) (v.good t)
-
-pub amid-end : (K i : ℕ) (es : List ℤ) (e : Entry) → Amid i es e → K ≤ i → Tells (Amid K es e) true
-amid-end K i es e x h = tells-yes (Amid K es e) (record { between = λ c l. x.between c (omega arith) })
+-- the cut field decides where it differs
+ahead : (a b : Entry) (c t : ℕ) → c < length a → length a ≡ length b → cut_field (length a) t ≡ c → order (get_or a c (pos 0)) (get_or b c (pos 0)) ≡ Ordering.lt → cmp t a b ≡ Ordering.lt
+unfolding cmp super_key
+ahead a b c t h n q e = let k : c < length b = omega arith in rw (← n, q, drop-cons a c (pos 0), drop-cons b c (pos 0), e, lex) refl
 
 -- ---- `enclosed`: amid the edges is inside the bounds
 

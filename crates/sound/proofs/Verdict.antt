@@ -2,12 +2,14 @@
 use mathlib.Core.Path.{◌≡◌, refl, sym, ap, ◌∙◌}
 use mathlib.Core.Bool.{Bool, true, false}
 use mathlib.Core.List.{List}
-use Prim.Native.Nat.{ℕ, ◌+◌, ◌-◌, ◌≤◌, ◌<◌}
+use Prim.Native.Nat.{ℕ, ◌-◌, ◌≤◌, ◌<◌}
 use native.Mathlib.Omega.{arith}
 use borrow.Author.Tests.{eqb-true, eqb-false}
 use lib.Dec.{eqb}
 use lib.ListN.{length, replicate}
 use lib.IntN.{ℤ}
+use Rattle.std.proofs.Common.{Option, None, Some}
+use Rattle.std.specs.Option.{option_eq}
 use Rattle.model.specs.Book.{Book, Cell}
 use Rattle.model.specs.Entry.{cut_field}
 use Rattle.model.specs.Pool.{book_of, cell_of, chain_from, fitting, sound, tree_from}
@@ -57,27 +59,21 @@ module _ (S : Shape) (ks : List ℤ) (ls : List ℕ) (root n : ℕ) (room : Room
       let b : tall ls root ≡ height x.tree = tall-rep S.k ks ls root x.tree x.rep in
       omega arith)
 
-  pub start : root ≤ S.c → (root ≡ 0 → ⊥) → (es : List ℤ) → length es ≡ 8 → Asked S (length ks) (length ls) 0 (n + 1) (replicate 8 0) × (Slot (length ls) root × Edged S.k ks (replicate 8 0) es)
-  start h ne es he = (record { room = room; cut_in = room.k_low; some = omega arith; eight = refl; bounds = open-fits S.c }, (is-slot S (length ks) (length ls) room root ne h, open-edged S.k ks es he))
+  pub start : root ≤ S.c → (root ≡ 0 → ⊥) → (bs : List ℕ) → bs ≡ replicate 8 0 → (es : List ℤ) → length es ≡ 8 → Asked S (length ks) (length ls) 0 bs × (Slot (length ls) root × Edged S.k ks bs es)
+  start h ne bs hb es he = rw hb (record { room = room; cut_in = room.k_low; eight = refl; bounds = open-fits S.c }, (is-slot S (length ks) (length ls) room root ne h, open-edged S.k ks es he))
 
-  pub whole_by : (r : ℕ) → Judged S.k ks ls 0 root (n + 1) (replicate 8 0) r → Tells W (eqb r 1)
-  whole_by r j = record {
-    good = λ t. let e = eqb-true r 1 t in let g = j.good (omega arith) 0 zero-cut in let k = g.count in record { tree = g.grown.tree; rep = g.grown.rep; ordered = g.grown.ordered; even = g.grown.even; count = omega arith };
-    bad = λ t x. other x (eqb-false r 1 t) (eqb r 0) refl;
-  }
-    where
-      zero-cut : cut_field S.k 0 ≡ 0
-      zero-cut = cut-self S.k 0 room.k_low
+  zero-cut : cut_field S.k 0 ≡ 0
+  zero-cut = cut-self S.k 0 room.k_low
 
-      other : W → (r ≡ 1 → ⊥) → (o : Bool) → eqb r 0 ≡ o → ⊥
-      other x ne true e = j.bad (eqb-true r 0 e) 0 zero-cut (record { tree = x.tree; rep = x.rep; ordered = x.ordered; even = x.even; inside = open-all root x.tree x.rep }) (let k = x.count in omega arith)
-      other x ne false e =
-          let z = eqb-false r 0 e in
-          let g = j.good (omega arith) 0 zero-cut in
-          let u : size g.grown.tree ≡ size x.tree = ap size (unique S.k ks ls root g.grown.tree x.tree g.grown.rep x.rep) in
-          let k = g.count in
-          let c = x.count in
-          ne (omega arith)
+  pub whole_by : (r : Option ℕ) → Judged S.k ks ls 0 root n (replicate 8 0) r → (o : Bool) → o ≡ option_eq eqb r (Some 0) → Tells W o
+  whole_by None j o e = rw e (tells-no W (λ x. let k = x.count in j.bad refl 0 zero-cut (record { tree = x.tree; rep = x.rep; ordered = x.ordered; even = x.even; inside = open-all root x.tree x.rep }) (omega arith)))
+  whole_by (Some m) j o e =
+      let g = j.good m refl 0 zero-cut in
+      let k = g.count in
+      record {
+        good = λ t. let z = eqb-true m 0 (sym e ∙ t) in record { tree = g.grown.tree; rep = g.grown.rep; ordered = g.grown.ordered; even = g.grown.even; count = omega arith };
+        bad = λ t x. let z = eqb-false m 0 (sym e ∙ t) in let u : size g.grown.tree ≡ size x.tree = ap size (unique S.k ks ls root g.grown.tree x.tree g.grown.rep x.rep) in let c = x.count in z (omega arith);
+      }
 
 -- ---- the whole pool
 

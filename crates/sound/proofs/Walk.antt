@@ -1,19 +1,14 @@
 -- The walk along the free chain: numbers that are 0, a cleared slot, and what hangs behind it.
-use mathlib.Core.Path.{◌≡◌, refl, sym, ap, subst, ◌∙◌}
+use mathlib.Core.Path.{◌≡◌, refl, sym, subst, ◌∙◌}
 use mathlib.Core.Bool.{Bool, true, false, ◌&&◌}
 use mathlib.Core.List.{List, [], ◌∷◌}
-use Prim.Native.Nat.{ℕ, zero, suc, ◌+◌, ◌-◌, ◌^◌, ◌≤◌, ◌<◌}
+use Prim.Native.Nat.{ℕ, zero, suc, ◌+◌, ◌-◌, ◌≤◌, ◌<◌}
 use native.Mathlib.Omega.{arith}
-use native.Mathlib.Numerals.{add-one, sub-one}
-use borrow.Author.Tests.{eqb-true, eqb-false, eq-eqb, ne_eqb, leb-true, le-leb}
+use native.Mathlib.Numerals.{sub-one}
+use borrow.Author.Tests.{eqb-true, eq-eqb, ne_eqb, leb-true, le-leb}
 use lib.Dec.{eqb, leb, compare_is_eq}
-use lib.ListN.{length, get_or, take, drop}
-use lib.Seq.{drop-cons}
+use lib.ListN.{length, get_or}
 use lib.IntN.{ℤ, pos}
-use lib.Signed.{mag}
-use mir.Syntax.{w64}
-use mir.Val.{to_z, of_z, SFits}
-use mir.ValLaws.{to_z-of_z}
 use Rattle.model.specs.Number.{order}
 use Rattle.model.specs.Book.{Cell}
 use Rattle.model.specs.Pool.{cell_of, in_pool, strung, zeros}
@@ -28,56 +23,32 @@ use Rattle.sound.proofs.Marks.{clash, tells-no, slot-some}
 
 -- ---- numbers that are 0
 
-pub zero-told : (x : ℤ) → SFits w64 x → Tells (x ≡ pos 0) (eqb (of_z w64 x) 0)
-zero-told x f = record { good = λ t. sym (to_z-of_z w64 x f) ∙ ap (to_z w64) (eqb-true (of_z w64 x) 0 t); bad = λ t e. eqb-false (of_z w64 x) 0 t (ap (of_z w64) e) }
+pub zeros_all : (p : List ℤ) → ((k : ℕ) → k < length p → get_or p k (pos 0) ≡ pos 0) → zeros p ≡ true
+zeros_all [] h = refl
+zeros_all (x ∷ p) h = rw (h 0 (omega arith)) (zeros_all p (λ k l. h (suc k) (omega arith)))
 
-past : (a : List ℤ) (i : ℕ) → length a ≤ i → zeros (drop i a) ≡ true
-past [] zero h = refl
-past [] (suc i) h = refl
-past (x ∷ a) zero h = absurd (omega arith)
-past (x ∷ a) (suc i) h = past a i (omega arith)
-
-module _ (a : List ℤ) (i : ℕ) (all : zeros a ≡ zeros (drop i a)) where
-  pub zeros-end : length a ≤ i → true ≡ zeros a
-  zeros-end h = sym (all ∙ past a i h)
-
-  module _ (g : i < length a) (b : mag (get_or a i (pos 0)) < 2 ^ 63) (r : Bool) (t : Tells (to_z w64 (of_z w64 (get_or a i (pos 0))) ≡ pos 0) r) where
-    read : to_z w64 (of_z w64 (get_or a i (pos 0))) ≡ get_or a i (pos 0)
-    read = to_z-of_z w64 (get_or a i (pos 0)) (record { sfits = b })
-
-    step : zeros a ≡ (compare_is_eq (order (get_or a i (pos 0)) (pos 0)) && zeros (drop (i + 1) a))
-    step = all ∙ rw (add-one, drop-cons a i (pos 0)) refl
-
-    pub zeros-on : r ≡ true → zeros a ≡ zeros (drop (i + 1) a)
-    zeros-on e = step ∙ ap (λ x. compare_is_eq (order x (pos 0)) && zeros (drop (i + 1) a)) (sym read ∙ t.good e)
-
-    pub zeros-not : r ≡ false → false ≡ zeros a
-    zeros-not e = go (compare_is_eq (order (get_or a i (pos 0)) (pos 0))) refl
-      where
-        go : (o : Bool) → compare_is_eq (order (get_or a i (pos 0)) (pos 0)) ≡ o → false ≡ zeros a
-        go true q = absurd (t.bad e (read ∙ order-eq (get_or a i (pos 0)) (pos 0) (is_eq-true (order (get_or a i (pos 0)) (pos 0)) q)))
-        go false q = sym (step ∙ ap (λ x. x && zeros (drop (i + 1) a)) q)
+pub zeros_not : (p : List ℤ) (k : ℕ) → k < length p → ¬ (get_or p k (pos 0) ≡ pos 0) → zeros p ≡ false
+zeros_not [] k l n = absurd (omega arith)
+zeros_not (x ∷ p) zero l n = go (compare_is_eq (order x (pos 0))) refl
+  where
+    go : (o : Bool) → compare_is_eq (order x (pos 0)) ≡ o → zeros (x ∷ p) ≡ false
+    go true q = absurd (n (order-eq x (pos 0) (is_eq-true (order x (pos 0)) q)))
+    go false q = rw q refl
+zeros_not (x ∷ p) (suc k) l n = rw (zeros_not p k (omega arith) n) (and-false (compare_is_eq (order x (pos 0))))
+  where
+    and-false : (o : Bool) → (o && false) ≡ false
+    and-false true = refl
+    and-false false = refl
 
 -- ---- a cleared slot
 
-module _ (K : ℕ) (ks : List ℤ) (ls : List ℕ) (s : ℕ) where
-  pub not_right : (x : ℕ) → x ≡ right_at ls s → (x ≡ 0 → ⊥) → false ≡ cleared K ks ls s
-  unfolding cleared
-  not_right x e n = rw (ne_eqb (right_at ls s) 0 (λ z. n (e ∙ z))) refl
+pub cleared_is : (K : ℕ) (ks : List ℤ) (ls : List ℕ) (n s x y : ℕ) → Slot n s → x ≡ right_at ls s → y ≡ tall ls s → cleared K ks ls s ≡ (eqb x 0 && (eqb y 0 && zeros (numbers_of K ks s)))
+unfolding cleared
+cleared_is K ks ls n s x y slot ex ey = rw (ex, ey, tall-slot ls s (slot-some n s slot)) refl
 
-  module _ (x : ℕ) (ex : x ≡ right_at ls s) (zx : x ≡ 0) (m : ℕ) (slot : Slot m s) (y : ℕ) (ey : y ≡ tall ls s) where
-    h-is : y ≡ height_at ls s
-    h-is = ey ∙ tall-slot ls s (slot-some m s slot)
-
-    pub not_low : (y ≡ 0 → ⊥) → false ≡ cleared K ks ls s
-    unfolding cleared
-    not_low n = rw (eq-eqb (right_at ls s) 0 (sym ex ∙ zx), ne_eqb (height_at ls s) 0 (λ z. n (h-is ∙ z))) refl
-
-    pub cleared_by : y ≡ 0 → (a : ℕ) → a ≡ address_of K s → (r : Bool) → r ≡ zeros (take ((a + K) - a) (drop a ks)) → r ≡ cleared K ks ls s
-    unfolding cleared numbers_of
-    cleared_by zy a ea r e =
-        let k : (a + K) - a ≡ K = omega arith in
-        rw (eq-eqb (right_at ls s) 0 (sym ex ∙ zx), eq-eqb (height_at ls s) 0 (sym h-is ∙ zy)) (rw (k, ea) at e)
+pub not_cleared : (K : ℕ) (ks : List ℤ) (ls : List ℕ) (s x : ℕ) → x ≡ right_at ls s → (x ≡ 0 → ⊥) → cleared K ks ls s ≡ false
+unfolding cleared
+not_cleared K ks ls s x ex n = rw (ne_eqb (right_at ls s) 0 (λ z. n (ex ∙ z))) refl
 
 -- ---- the chain
 
@@ -137,9 +108,6 @@ module _ (K C : ℕ) (ks : List ℤ) (ls : List ℕ) where
     pub up : F s n → F free all
     pub down : F free all → F s n
 
-  pub same_start : (free all : ℕ) → Same free all free all
-  same_start free all = record { up = λ x. x; down = λ x. x }
-
   module _ (free all s n : ℕ) (same : Same free all s n) where
     ended : (cs : List ℕ) → s ≡ 0 → strung f C s cs ≡ true → length cs ≡ n → n ≡ 0
     ended [] z h e = sym e
@@ -149,16 +117,10 @@ module _ (K C : ℕ) (ks : List ℤ) (ls : List ℕ) where
         let d = leb-true 1 s (both (leb 1 s) (leb s C) b.1).0 in
         absurd (omega arith)
 
-    pub chain-end : s ≡ 0 → Tells (F free all) (eqb n 0)
-    chain-end z = record {
-      good = λ t. same.up (record { slots = []; chain = eq-eqb s 0 z; count = sym (eqb-true n 0 t) });
-      bad = λ t x. let g = same.down x in eqb-false n 0 t (ended g.slots z g.chain g.count);
-    }
+    pub too-short : s ≡ 0 → (n ≡ 0 → ⊥) → Tells (F free all) false
+    too-short z ne = tells-no (F free all) (λ x. let g = same.down x in ne (ended g.slots z g.chain g.count))
 
     module _ (ne : s ≡ 0 → ⊥) where
-      pub too_many : n ≡ 0 → Tells (F free all) false
-      too_many z = tells-no (F free all) (λ x. (hung s n ne (same.down x)).some z)
-
       pub off-pool : C < s → Tells (F free all) false
       off-pool h = tells-no (F free all) (λ x. let g = (hung s n ne (same.down x)).inside in omega arith)
 
@@ -166,8 +128,10 @@ module _ (K C : ℕ) (ks : List ℤ) (ls : List ℕ) where
         pub not-cleared : r ≡ false → Tells (F free all) false
         not-cleared e = tells-no (F free all) (λ x. clash (sym (hung s n ne (same.down x)).clear ∙ sym t ∙ e))
 
-        pub same-on : r ≡ true → (n ≡ 0 → ⊥) → s ≤ C → (q : ℕ) → q ≡ left_at ls s → Same free all q (n - 1)
-        same-on e some l q eq = record {
-          up = λ x. same.up (link s n ne (record { inside = l; clear = sym t ∙ e; some = some; rest = subst (λ (y : ℕ). F y (n - 1)) eq x }));
-          down = λ x. subst (λ (y : ℕ). F y (n - 1)) (sym eq) (hung s n ne (same.down x)).rest;
-        }
+        pub same-on : r ≡ true → (m : ℕ) → m + 1 ≡ n → s ≤ C → (q : ℕ) → q ≡ left_at ls s → Same free all q m
+        same-on e m k l q eq =
+            let z : m ≡ n - 1 = omega arith in
+            rw z (record {
+              up = λ x. same.up (link s n ne (record { inside = l; clear = sym t ∙ e; some = λ o. omega arith; rest = subst (λ (y : ℕ). F y (n - 1)) eq x }));
+              down = λ x. subst (λ (y : ℕ). F y (n - 1)) (sym eq) (hung s n ne (same.down x)).rest;
+            })

@@ -1,5 +1,5 @@
 -- What the pass over the tree decides.
-use Rattle.std.specs.Prelude.{◌≡◌, List, ℕ, suc, ◌+◌, ◌≤◌, ◌<◌, max, length, get_or, ℤ, pos}
+use Rattle.std.specs.Prelude.{◌≡◌, List, ℕ, suc, ◌+◌, ◌≤◌, ◌<◌, max, length, get_or, ℤ, pos, Option, None, Some}
 use Prim.Native.Nat.{Ordering}
 use Rattle.model.specs.Entry.{Entry, cut_field}
 use Rattle.model.specs.Number.{order}
@@ -8,13 +8,6 @@ use Rattle.model.specs.declared.Shape.{Shape}
 use Rattle.model.proofs.Trees.{All, Balanced, Even, Less, Ordered}
 use Rattle.cells.specs.Slots.{Room, left_at, right_at, height_at, tall, numbers_of}
 use Rattle.cells.specs.Memory.{Rep}
-
--- r is the first of the fields from..to in which the numbers from i on and from j on differ
-pub record First (ks : List ℤ) (i j from to r : ℕ) : Type 0 where
-  pub low : from ≤ r
-  pub high : r ≤ to
-  pub same : (m : ℕ) → from ≤ m → m < r → get_or ks (i + m) (pos 0) ≡ get_or ks (j + m) (pos 0)
-  pub other : r < to → ¬ (get_or ks (i + r) (pos 0) ≡ get_or ks (j + r) (pos 0))
 
 -- slot a is before slot b at every depth that is cut at c, where both are slots
 abbrev pub Before : ℕ → List ℤ → ℕ → ℕ → ℕ → Type 0
@@ -80,16 +73,15 @@ pub record Good (K : ℕ) (ks : List ℤ) (ls : List ℕ) (t s left : ℕ) (bs :
   pub grown : Grown K ks ls t s bs
   pub count : size grown.tree + r ≡ left
 
--- at every depth that is cut at c: such a tree of fewer than `left` entries, and r is what is left of them; 0 where there is none
-pub record Judged (K : ℕ) (ks : List ℤ) (ls : List ℕ) (c s left : ℕ) (bs : List ℕ) (r : ℕ) : Type 0 where
-  pub good : 1 ≤ r → (t : ℕ) → cut_field K t ≡ c → Good K ks ls t s left bs r
-  pub bad : r ≡ 0 → (t : ℕ) → cut_field K t ≡ c → (x : Grown K ks ls t s bs) → size x.tree < left → ⊥
+-- at every depth that is cut at c: such a tree of at most `left` entries, and r is what is left of them; none where there is no such tree
+pub record Judged (K : ℕ) (ks : List ℤ) (ls : List ℕ) (c s left : ℕ) (bs : List ℕ) (r : Option ℕ) : Type 0 where
+  pub good : (m : ℕ) → r ≡ Some m → (t : ℕ) → cut_field K t ≡ c → Good K ks ls t s left bs m
+  pub bad : r ≡ None → (t : ℕ) → cut_field K t ≡ c → (x : Grown K ks ls t s bs) → size x.tree ≤ left → ⊥
 
 -- what the pass asks
-pub record Asked (S : Shape) (nk nl cut left : ℕ) (bs : List ℕ) : Type 0 where
+pub record Asked (S : Shape) (nk nl cut : ℕ) (bs : List ℕ) : Type 0 where
   pub room : Room S nk nl
   pub cut_in : cut < S.k
-  pub some : 1 ≤ left
   pub eight : length bs ≡ 8
   pub bounds : BoundsIn S.c bs
 

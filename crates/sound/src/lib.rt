@@ -16,21 +16,13 @@ pub fn is_sound(head: Head, keys: &[i64], links: &[usize]) -> bool
     requires { Room (shape_of head) (length keys.now) (length links.now) }
     ensures { result ≡ sound head keys.now links.now }
 {
-    if head.c < head.root {
-        return false;
-    }
-    if head.c < head.free {
-        return false;
-    }
-    if head.c < head.n {
+    if head.c < head.root || head.c < head.free || head.c < head.n {
         return false;
     }
     let shape = Shape {
         k: head.k,
         c: head.c,
     };
-    if !crate::tree::tree_right(keys, links, shape, head.root, head.n) {
-        return false;
-    }
-    crate::chain::chain_right(keys, links, shape, head.free, head.c - head.n)
+    crate::tree::tree_right(keys, links, shape, head.root, head.n)
+        && crate::chain::chain_right(keys, links, shape, head.free, head.c - head.n)
 }

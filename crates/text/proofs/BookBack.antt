@@ -1,57 +1,64 @@
 -- Reading strictly gives the verdict of the model.
-use mathlib.Core.Path.{◌≡◌, refl, sym, ap, ap₂, ◌∙◌}
+use mathlib.Core.Path.{◌≡◌, refl, sym, ap, ◌∙◌}
 use mathlib.Core.List.{List, [], ◌∷◌, ◌++◌}
 use mathlib.Core.Option.{Option, none, some}
-use mathlib.Core.Bool.{Bool, true, false, not}
+use mathlib.Core.Bool.{Bool, true, false}
 use Prim.Native.Nat.{ℕ, zero, suc, ◌+◌, ◌-◌, ◌≤◌, ◌<◌}
 use native.Mathlib.Omega.{arith}
-use lib.Dec.{eqb}
-use lib.IntN.{ℤ}
-use lib.ListN.{length, get_or, take, drop, drop_of_length-le}
-use borrow.Author.Tests.{eq-eqb, eqb-false, eqb-true, ne_eqb, not-false, not-true}
+use lib.Dec.{eqb, ltb}
+use lib.ListN.{length, get_or, drop, length-append}
+use borrow.Author.Tests.{eq-eqb, eqb-false, eqb-true, ltb-false, ne_eqb}
 use Rattle.model.specs.Entry.{Entry}
 use Rattle.model.specs.Text.{Parsed, body, broken, cut_line, entry_of_line, following, pairs, rises, saved}
 use Rattle.model.proofs.Prints.{Parted, cut-back, cut-join, entry-back, entry-line, pairs-high}
 use Rattle.model.proofs.Texts.{body-by, body-step, line-length}
 use Rattle.text.specs.Strict.{line_at}
-use Rattle.text.specs.Told.{last_of, summed, LineRead, Stands}
-use Rattle.text.specs.declared.Saved.{Saved}
-use Rattle.text.specs.declared.Saved.TheVariants.{Broken, Book}
-use Rattle.text.specs.declared.line.Line.{Line}
+use Rattle.std.proofs.Common.{Result, Ok, Err, Some}
+use Rattle.std.proofs.lemmas.List.Quantifiers.{position-Some}
+use Rattle.std.specs.List.{between, position, position_or_len}
+use Rattle.std.specs.Option.{IsSome}
+use Rattle.std.proofs.lemmas.List.Sums.{fails_before_first}
+use Rattle.std.proofs.lemmas.List.{get_or_at}
+use Rattle.std.proofs.lemmas.Slice.{between_to_end}
+use Rattle.text.specs.Told.{summed, Stands}
+use Rattle.text.specs.declared.title.Title.{Title}
+use Rattle.text.specs.declared.Broken.{Broken}
 use Rattle.text.proofs.LineBack.{line-stands, stands-line}
-use Rattle.text.proofs.Readings.{front, not_none, unsome}
+use Rattle.text.proofs.Readings.{not_none, unsome}
 
--- behind the first LF
-abbrev pub behind : List ℕ → List ℕ
-behind [] = []
-behind (b ∷ bs) = elim (eqb b 10) [ true ↦ bs | false ↦ behind bs ]
+-- the error of a `?`
+pub same_err : {A E : Type 0} {x y : E} → ◌≡◌ {A = Result A E} (Err x) (Err y) → x ≡ y
+same_err h = cc
 
-behind-here : (b : ℕ) (bs : List ℕ) → b ≡ 10 → behind (b ∷ bs) ≡ bs
-behind-here b bs h = rw (eq-eqb b 10 h, behind) refl
-
-behind-later : (b : ℕ) (bs : List ℕ) → (b ≡ 10 → ⊥) → behind (b ∷ bs) ≡ behind bs
-behind-later b bs h = rw (ne_eqb b 10 h, behind) refl
-
-behind-join : (l r : List ℕ) (bs : List ℕ) → cut_line bs ≡ some (l, r) → behind bs ≡ r
-behind-join l r [] e = not_none e
-behind-join l r (b ∷ bs) e = go (eqb b 10) refl (cut_line bs) refl (λ l. behind-join l r bs)
+-- the first LF
+pub cut-first : (text : List ℕ) (i : ℕ) → i < length text → get_or text i 0 ≡ 10 → ((k : ℕ) → k < i → get_or text k 0 ≡ 10 → ⊥)
+    → (c : Parted) → cut_line text ≡ some c → drop (i + 1) text ≡ c.1
+cut-first [] i h e n c q = absurd (omega arith)
+cut-first (b ∷ bs) zero h e n c q = ap (λ (d : Parted). d.1) (unsome (rw (eq-eqb b 10 e, cut_line) at q))
+cut-first (b ∷ bs) (suc i) h e n c q = go (cut_line bs) refl (rw (ne_eqb b 10 (n 0 (omega arith)), cut_line) at q) (cut-first bs i (omega arith) e (λ k l. n (suc k) (omega arith)))
   where
-    go : (o : Bool) → eqb b 10 ≡ o → (p : Option Parted) → cut_line bs ≡ p → ((m : List ℕ) → cut_line bs ≡ some (m, r) → behind bs ≡ r) → behind (b ∷ bs) ≡ r
-    go true x p q ih = behind-here b bs (eqb-true b 10 x) ∙ ap (λ (c : Parted). c.1) (unsome (rw (x, cut_line) at e))
-    go false x none q ih = not_none (rw q at (rw (x, cut_line) at e))
-    go false x (some c) q ih =
-        let w : ◌≡◌ {A = Parted} ((b ∷ c.0), c.1) (l, r) = unsome (rw q at (rw (x, cut_line) at e)) in
-        behind-later b bs (eqb-false b 10 x) ∙ ih c.0 (q ∙ ap {B = Option Parted} (λ (y : List ℕ). some (c.0, y)) (ap (λ (d : Parted). d.1) w))
+    go : (o : Option Parted) → cut_line bs ≡ o → ◌≡◌ {A = Option Parted} (elim o [ none ↦ none | some d ↦ some ((b ∷ d.0), d.1) ]) (some c)
+        → ((d : Parted) → cut_line bs ≡ some d → drop (i + 1) bs ≡ d.1) → drop (suc i + 1) (b ∷ bs) ≡ c.1
+    go none x z ih = not_none z
+    go (some d) x z ih = let a : suc i + 1 ≡ suc (i + 1) = omega arith in rw a (ih d x ∙ ap (λ (d : Parted). d.1) (unsome z))
 
-module _ (text : List ℕ) (at : ℕ) (inv : behind (drop at text) ≡ behind text) where
-  pub entry_here : at < length text → get_or text at 0 ≡ 10 → (c : Parted) → cut_line text ≡ some c → drop (at + 1) text ≡ c.1
-  entry_here h e c q = sym (behind-here (get_or text at 0) (drop (at + 1) text) e) ∙ ap behind (sym (front text at h)) ∙ inv ∙ behind-join c.0 c.1 text q
+pub cut-found : (text : List ℕ) (c : Parted) → cut_line text ≡ some c → IsSome (position (λ b. eqb b 10) text)
+cut-found text c q = go (ltb (position_or_len (λ b. eqb b 10) text) (length text)) refl
+  where
+    go : (o : Bool) → ltb (position_or_len (λ b. eqb b 10) text) (length text) ≡ o → IsSome (position (λ b. eqb b 10) text)
+    go true x = rw x refl
+    go false x =
+        let m = ltb-false (position_or_len (λ b. eqb b 10) text) (length text) x in
+        let t = cut-join text c q in
+        let l = ap length t ∙ length-append c.0 (10 ∷ c.1) in
+        let z : eqb (get_or text (length c.0) 0) 10 ≡ false = fails_before_first (λ b. eqb b 10) text (length c.0) 0 (omega arith) in
+        let w : get_or text (length c.0) 0 ≡ 10 = rw t (get_or_at c.0 10 c.1 0 _ refl) in
+        absurd (eqb-false (get_or text (length c.0) 0) 10 z w)
 
-  pub entry-later : at < length text → (get_or text at 0 ≡ 10 → ⊥) → behind (drop (at + 1) text) ≡ behind text
-  entry-later h e = sym (behind-later (get_or text at 0) (drop (at + 1) text) e) ∙ ap behind (sym (front text at h)) ∙ inv
-
-  pub entry-nowhere : length text ≤ at → (c : Parted) → cut_line text ≡ some c → drop at text ≡ c.1
-  entry-nowhere h c q = let e = drop_of_length-le text h in e ∙ ap behind (sym e) ∙ inv ∙ behind-join c.0 c.1 text q
+pub behind-first : (text : List ℕ) (i : ℕ) → position (λ b. eqb b 10) text ≡ Some i → (c : Parted) → cut_line text ≡ some c → between (i + 1) (length text) text ≡ c.1
+behind-first text i e c q =
+    let p = position-Some (λ b. eqb b 10) text i 0 e in
+    between_to_end text (i + 1) (length text) (omega arith) ∙ cut-first text i p.0 (eqb-true (get_or text i 0) 10 p.1) (λ k h. eqb-false (get_or text k 0) 10 (p.2 k h)) c q
 
 -- one entry line
 module _ (m K line : ℕ) (last : Option Entry) (bs : List ℕ) (low : 1 ≤ K) where
@@ -82,53 +89,31 @@ module _ (m K line : ℕ) (last : Option Entry) (bs : List ℕ) (low : 1 ≤ K) 
     body-good z = body-step m K line last bs (pairs 97 e, r) e cut entry z
 
 -- the verdict on what is left, behind i entries
-abbrev pub more : ℕ → Parsed → Saved
-more i (broken l) = Broken l
-more i (saved K es) = Book K (i + length es)
-
-more-none : (p : Parsed) → more 0 p ≡ summed p
-more-none (broken l) = refl
-more-none (saved K es) = let e : 0 + length es ≡ length es = omega arith in ap (Book K) e
+abbrev pub more : ℕ → Parsed → Result Title Broken
+more i (broken l) = Err (record { line = l })
+more i (saved K es) = Ok (record { fields = K; entries = i + length es })
 
 more-following : (i : ℕ) (e : Entry) (p : Parsed) → more i (following e p) ≡ more (i + 1) p
 more-following i e (broken l) = refl
-more-following i e (saved K es) = let q : i + suc (length es) ≡ i + 1 + length es = omega arith in ap (Book K) q
+more-following i e (saved K es) = let q : i + suc (length es) ≡ i + 1 + length es = omega arith in rw q refl
 
-pub body-start : (n k : ℕ) (last : List ℤ) (bs : List ℕ) → summed (body n k 2 none bs) ≡ more 0 (body (n - 0) k (0 + 2) (last_of 0 k last) bs)
-body-start n k last bs = let e : n - 0 ≡ n = omega arith in rw e (sym (more-none (body n k 2 none bs)))
-
-module _ (text : List ℕ) (at k n : ℕ) (last : List ℤ) (next i : ℕ)
-    (inv : summed (body n k 2 none (drop at text)) ≡ more i (body (n - i) k (i + 2) (last_of i k last) (drop next text))) where
-  ended_at : n ≤ i → summed (body n k 2 none (drop at text)) ≡ more i (body zero k (i + 2) (last_of i k last) (drop next text))
-  ended_at h = let z : n - i ≡ 0 = omega arith in inv ∙ rw z refl
-
-  pub body-left : n ≤ i → next < length text → Broken (i + 2) ≡ summed (body n k 2 none (drop at text))
-  body-left h l = sym (ended_at h ∙ rw (front text next l) refl)
-
-  pub body_end : n ≤ i → length text ≤ next → Book k i ≡ summed (body n k 2 none (drop at text))
-  body_end h l = let e : i + 0 ≡ i = omega arith in sym (ended_at h ∙ rw (drop_of_length-le text l) (ap (Book k) e))
-
-  module _ (low : 1 ≤ k) (h : i < n) (r : Line) (line : LineRead text next k r) where
-    turn : summed (body n k 2 none (drop at text)) ≡ more i (body (suc (n - (i + 1))) k (i + 2) (last_of i k last) (drop next text))
+module _ (text : List ℕ) (k n : ℕ) (last : Option Entry) (left : List ℕ) (i : ℕ)
+    (inv : summed (body n k 2 none text) ≡ more i (body (n - i) k (i + 2) last left)) where
+  module _ (low : 1 ≤ k) (h : i < n) where
+    turn : summed (body n k 2 none text) ≡ more i (body (suc (n - (i + 1))) k (i + 2) last left)
     turn = let m : n - i ≡ suc (n - (i + 1)) = omega arith in inv ∙ rw m refl
 
-    pub body-line : not r.ok ≡ true → Broken (i + 2) ≡ summed (body n k 2 none (drop at text))
-    body-line o = sym (turn ∙ ap (more i) (body-bad (n - (i + 1)) k (i + 2) (last_of i k last) (drop next text) low (line.read ∙ rw (not-true r.ok o) refl)))
+    pub body-line : none ≡ line_at k 97 left → Err (record { line = i + 2 }) ≡ summed (body n k 2 none text)
+    body-line o = sym (turn ∙ ap (more i) (body-bad (n - (i + 1)) k (i + 2) last left low (sym o)))
 
-    module _ (o : not r.ok ≡ false) (f : Bool) (e : f ≡ rises (last_of i k last) (take k r.f)) where
-      got : line_at k 97 (drop next text) ≡ some (take k r.f, drop r.next text)
-      got = line.read ∙ rw (not-false r.ok o) refl
+    module _ (e : Entry) (rest : List ℕ) (got : some (e, rest) ≡ line_at k 97 left) where
+      pub body-order : false ≡ rises last e → Err (record { line = i + 2 }) ≡ summed (body n k 2 none text)
+      body-order r = sym (turn ∙ ap (more i) (body-falls (n - (i + 1)) k (i + 2) last left low e rest (sym got) (sym r)))
 
-      pub body-order : not f ≡ true → Broken (i + 2) ≡ summed (body n k 2 none (drop at text))
-      body-order q = sym (turn ∙ ap (more i) (body-falls (n - (i + 1)) k (i + 2) (last_of i k last) (drop next text) low (take k r.f) (drop r.next text) got (sym e ∙ not-true f q)))
-
-      pub body-on : not f ≡ false → summed (body n k 2 none (drop at text)) ≡ more (i + 1) (body (n - (i + 1)) k (i + 1 + 2) (last_of (i + 1) k r.f) (drop r.next text))
-      body-on q =
+      pub body-on : true ≡ rises last e → summed (body n k 2 none text) ≡ more (i + 1) (body (n - (i + 1)) k (i + 1 + 2) (some e) rest)
+      body-on r =
           let s : suc (i + 2) ≡ i + 1 + 2 = omega arith in
-          let l : i + 1 ≡ suc i = omega arith in
-          let p : body (n - (i + 1)) k (suc (i + 2)) (some (take k r.f)) (drop r.next text) ≡ body (n - (i + 1)) k (i + 1 + 2) (last_of (i + 1) k r.f) (drop r.next text) =
-          ap₂ (λ x y. body (n - (i + 1)) k x y (drop r.next text)) s (ap (λ x. last_of x k r.f) (sym l)) in
           turn
-          ∙ ap (more i) (body-good (n - (i + 1)) k (i + 2) (last_of i k last) (drop next text) low (take k r.f) (drop r.next text) got (sym e ∙ not-false f q))
-          ∙ more-following i (take k r.f) (body (n - (i + 1)) k (suc (i + 2)) (some (take k r.f)) (drop r.next text))
-          ∙ ap (more (i + 1)) p
+          ∙ ap (more i) (body-good (n - (i + 1)) k (i + 2) last left low e rest (sym got) (sym r))
+          ∙ more-following i e (body (n - (i + 1)) k (suc (i + 2)) (some e) rest)
+          ∙ ap (λ x. more (i + 1) (body (n - (i + 1)) k x (some e) rest)) s

@@ -4,6 +4,6 @@ pub mod Pairs
 pub mod NumberBack
 pub mod LineBack
 pub mod Words
-pub mod Listing
 pub mod TitleBack
+pub mod Listing
 pub mod BookBack

@@ -7,7 +7,7 @@ use Prim.Native.Nat.{ℕ, zero, suc, ◌-◌, ◌≤◌, ◌<◌}
 use native.Mathlib.Omega.{arith}
 use lib.Dec.{eqb}
 use lib.IntN.{ℤ, pos}
-use lib.ListN.{length, take, drop, replicate}
+use lib.ListN.{length, take, replicate}
 use borrow.Author.Tests.{eqb-false, eqb-true}
 use Rattle.model.specs.Entry.{Entry}
 use Rattle.model.specs.declared.Entry.{Entry as Four}
@@ -16,8 +16,10 @@ use Rattle.model.specs.Text.{ranged, signed}
 use Rattle.model.proofs.Trees.{both, pair}
 use Rattle.print.specs.Line.{end_byte_of, ended, pair_of}
 use Rattle.text.specs.Strict.{Entirely, Signedly, closed, consed, line_at, number_at, pair_at}
-use Rattle.text.specs.Told.{told, LineRead, ReadBack, Stands}
-use Rattle.text.specs.declared.line.Line.{Line}
+use denote.Bor.{Bor}
+use Rattle.std.proofs.Common.{Option as Maybe, Some, None}
+use Rattle.std.specs.Option.{IfSome, IsSome, option_map}
+use Rattle.text.specs.Told.{Filled, ReadBack, Standing, Stands, told}
 use Rattle.text.proofs.Pairs.{closed_at, line_step, line-stop, open_at, right-at, wrong-at}
 use Rattle.text.proofs.NumberBack.{number-complete, number-sound}
 use Rattle.text.proofs.Readings.{not_none, unsome}
@@ -124,20 +126,23 @@ line-stands k bs e rest h q = go e (line-sound k 97 bs e rest q)
     go [] p = let n : 0 ≡ k = p.sized in absurd (omega arith)
     go (x ∷ xs) p = record { printed = p.is ∙ sym (ended-pairs 97 x xs rest); sized = p.sized; in_range = p.in_range }
 
-pub told-some : {A : Type 0} (ok : Bool) (a b : A) (s t : List ℕ) → told ok a s ≡ some (b, t) → (ok ≡ true) × (a ≡ b) × (s ≡ t)
-told-some {A} true a b s t e = let w : ◌≡◌ {A = A × List ℕ} (a, s) (b, t) = unsome e in (refl, ap (λ (d : A × List ℕ). d.0) w, ap (λ (d : A × List ℕ). d.1) w)
-told-some false a b s t e = not_none e
-
 abbrev four : List ℤ → Four
 four f = record { f = f }
 
 -- reading where a line stands gives its entry
-pub entry_read : (text : List ℕ) (at k : ℕ) (r : Line) → 1 ≤ k → LineRead text at k r
-    → (e : Entry) (rest : List ℕ) → Stands (drop at text) k e rest → ReadBack text (record { entry = four r.f; next = r.next }) e rest
-entry_read text at k r h l e rest s =
-    let w = told-some r.ok (take k r.f) e (drop r.next text) rest (sym l.read ∙ stands-line k (drop at text) e rest h s) in
-    record {
-      entry = ap four (l.filled w.0 ∙ ap₂ (λ a n. a ++ replicate (4 - n) (pos 0)) w.1 (sym s.sized));
-      next = w.2;
-      within = l.within;
-    }
+module _ (text : List ℕ) (k : ℕ) (h : 1 ≤ k) where
+  pub read_some : (r : Maybe (List ℤ × Bor (List ℕ))) → told (option_map (λ l. (take k l.0, l.1)) r) ≡ line_at k 97 text → Standing text k → IsSome r
+  read_some None l s = not_none (l ∙ stands-line k text s.entry s.rest h s.stands)
+  read_some (Some x) l s = refl
+
+  pub entry_read : (r : Maybe (List ℤ × Bor (List ℕ))) (x : List ℤ × Bor (List ℕ)) → r ≡ Some x
+      → told (option_map (λ l. (take k l.0, l.1)) r) ≡ line_at k 97 text → IfSome r (λ l. Filled k l.0)
+      → (e : Entry) (rest : List ℕ) → Stands text k e rest → ReadBack (four x.0, x.1) e rest
+  entry_read None x z l g e rest s = cc
+  entry_read (Some y) x z l g e rest s =
+      let w : ◌≡◌ {A = Entry × List ℕ} (take k y.0, y.1.now) (e, rest) = unsome (l ∙ stands-line k text e rest h s) in
+      let q : y ≡ x = cc in
+      rw (← q) record {
+        entry = ap four (g.zeros ∙ ap₂ (λ a n. a ++ replicate (4 - n) (pos 0)) (ap (λ (d : Entry × List ℕ). d.0) w) (sym s.sized));
+        left = ap (λ (d : Entry × List ℕ). d.1) w;
+      }

@@ -2,21 +2,21 @@
 use mathlib.Core.Path.{◌≡◌, refl, sym, ap, ◌∙◌}
 use mathlib.Core.List.{List, [], ◌∷◌, ◌++◌}
 use mathlib.Core.Option.{none, some}
-use mathlib.Core.Bool.{Bool, true, false, not, ◌&&◌}
+use mathlib.Core.Bool.{false, ◌&&◌}
 use Prim.Native.Nat.{ℕ, suc, ◌+◌, ◌-◌, ◌≤◌, ◌<◌}
 use native.Mathlib.Omega.{arith}
 use native.Mathlib.Numerals.{add-one}
 use lib.Dec.{eqb}
 use lib.IntN.{ℤ, pos}
-use lib.ListN.{length, get_or, set, take, drop, length-drop, drop_of_length-le, replicate, take-append-drop}
-use lib.Seq.{drop-drop, drop-set-lt, take-suc-set}
-use borrow.Author.Tests.{eq-eqb, ne_eqb, not-false, not-true}
+use lib.ListN.{length, get_or, set, take, drop, replicate}
+use lib.Seq.{drop-cons, drop-drop, drop-set-lt, take-suc-set}
+use borrow.Author.Tests.{eq-eqb, eqb-true, ne_eqb}
 use Rattle.model.specs.Entry.{Entry}
-use Rattle.model.proofs.Trees.{pair}
+use Rattle.model.proofs.Trees.{both, pair}
 use Rattle.print.specs.Line.{end_byte_of}
-use Rattle.text.specs.Strict.{Entirely, closed, consed, line_at, number_at, pair_at}
-use Rattle.text.specs.Told.{told}
-use Rattle.text.proofs.Readings.{front, left_false, right-false}
+use Rattle.text.specs.Strict.{Entirely, Signedly, closed, consed, line_at, number_at, pair_at}
+use Rattle.std.specs.List.{between}
+use Rattle.std.proofs.lemmas.Slice.{between_to_end, first_rest}
 
 -- a pair
 short-at : (name end : ℕ) (bs : List ℕ) → length bs < 2 → pair_at name end bs ≡ none
@@ -41,41 +41,42 @@ pub open_at : (end : ℕ) (x : ℤ) (b : ℕ) (r : List ℕ) → (b ≡ end → 
 unfolding closed
 open_at end x b r h = rw (ne_eqb b end h, closed) refl
 
-module _ (text : List ℕ) (at name end : ℕ) where
-  pub pair-short : length text - at < 2 → pair_at name end (drop at text) ≡ none
-  pair-short h = short-at name end (drop at text) (let d = length-drop at text in omega arith)
+module _ (text : List ℕ) (name end : ℕ) where
+  pub pair-other : (2 ≤ length text → get_or text 0 0 ≡ name → get_or text 1 0 ≡ 61 → ⊥) → none ≡ pair_at name end text
+  pair-other n = sym (other text n)
+    where
+      other : (l : List ℕ) → (2 ≤ length l → get_or l 0 0 ≡ name → get_or l 1 0 ≡ 61 → ⊥) → pair_at name end l ≡ none
+      other [] n = short-at name end [] (omega arith)
+      other (a ∷ []) n = short-at name end (a ∷ []) (omega arith)
+      other (a ∷ b ∷ bs) n = wrong-at name end a b bs (grind (arith, n, both, eqb-true))
 
-  module _ (h : 2 ≤ length text - at) (inside : at ≤ length text) where
-    two : drop at text ≡ get_or text at 0 ∷ get_or text (at + 1) 0 ∷ drop (at + 2) text
-    two =
-        let e : at + 1 + 1 ≡ at + 2 = omega arith in
-        front text at (omega arith) ∙ ap (λ l. get_or text at 0 ∷ l) (rw e at (front text (at + 1) (omega arith)))
+  module _ (h : 2 ≤ length text) (n : get_or text 0 0 ≡ name) (q : get_or text 1 0 ≡ 61)
+      (o : Signedly) (e : o ≡ number_at (between 2 (length text) text)) where
+    two : text ≡ get_or text 0 0 ∷ get_or text 1 0 ∷ between 2 (length text) text
+    two = drop-cons text 0 0 (omega arith) ∙ ap (λ l. get_or text 0 0 ∷ l) (drop-cons text 1 0 h ∙ ap (λ l. get_or text 1 0 ∷ l) (sym (between_to_end text 2 (length text) (omega arith))))
 
-    pub pair-name : (get_or text at 0 ≡ name → ⊥) → pair_at name end (drop at text) ≡ none
-    pair-name n = rw two (wrong-at name end (get_or text at 0) (get_or text (at + 1) 0) (drop (at + 2) text) (left_false (eqb (get_or text at 0) name) (eqb (get_or text (at + 1) 0) 61) (ne_eqb (get_or text at 0) name n)))
+    through : closed end o ≡ pair_at name end text
+    through = ap (closed end) e ∙ sym (ap (pair_at name end) two ∙ right-at name end (get_or text 0 0) (get_or text 1 0) (between 2 (length text) text) n q)
 
-    pub pair-equals : (get_or text (at + 1) 0 ≡ 61 → ⊥) → pair_at name end (drop at text) ≡ none
-    pair-equals n = rw two (wrong-at name end (get_or text at 0) (get_or text (at + 1) 0) (drop (at + 2) text) (right-false (eqb (get_or text at 0) name) (eqb (get_or text (at + 1) 0) 61) (ne_eqb (get_or text (at + 1) 0) 61 n)))
+    pub pair-none : o ≡ none → none ≡ pair_at name end text
+    unfolding closed
+    pair-none z = sym (ap (closed end) z) ∙ through
 
-    module _ (n : get_or text at 0 ≡ name) (q : get_or text (at + 1) 0 ≡ 61) (ok : Bool) (x : ℤ) (next : ℕ)
-        (e : number_at (drop (at + 2) text) ≡ told ok x (drop next text)) where
-      through : pair_at name end (drop at text) ≡ closed end (told ok x (drop next text))
-      through = rw two (right-at name end (get_or text at 0) (get_or text (at + 1) 0) (drop (at + 2) text) n q) ∙ ap (closed end) e
-
-      pub pair-none : not ok ≡ true → pair_at name end (drop at text) ≡ none
+    module _ (x : ℤ) (rest : List ℕ) (z : o ≡ some (x, rest)) where
+      pub pair-open : (1 ≤ length rest → get_or rest 0 0 ≡ end → ⊥) → none ≡ pair_at name end text
       unfolding closed
-      pair-none o = through ∙ rw (not-true ok o) refl
+      pair-open m = sym (unended rest m) ∙ sym (ap (closed end) z) ∙ through
+        where
+          unended : (l : List ℕ) → (1 ≤ length l → get_or l 0 0 ≡ end → ⊥) → closed end (some (x, l)) ≡ none
+          unended [] m = refl
+          unended (b ∷ bs) m = open_at end x b bs (m (omega arith))
 
-      pub pair-out : not ok ≡ false → next ≡ length text → pair_at name end (drop at text) ≡ none
-      unfolding closed
-      pair-out o z = through ∙ rw (not-false ok o, drop_of_length-le text {i = next} (omega arith)) refl
-
-      module _ (o : not ok ≡ false) (z : (next ≡ length text → ⊥)) (w : next ≤ length text) where
-        pub pair_end : (get_or text next 0 ≡ end → ⊥) → pair_at name end (drop at text) ≡ none
-        pair_end g = through ∙ rw (not-false ok o, front text next (omega arith)) (open_at end x (get_or text next 0) (drop (next + 1) text) g)
-
-        pub pair_is : get_or text next 0 ≡ end → (y : ℤ) → y ≡ x → pair_at name end (drop at text) ≡ some (y, drop (next + 1) text)
-        pair_is g y v = through ∙ rw (not-false ok o, front text next (omega arith), v) (closed_at end x (get_or text next 0) (drop (next + 1) text) g)
+      pub pair_is : 1 ≤ length rest → get_or rest 0 0 ≡ end → (y : ℤ) → y ≡ x → some (y, between 1 (length rest) rest) ≡ pair_at name end text
+      pair_is g b y v =
+          rw v (sym (closed_at end x (get_or rest 0 0) (between 1 (length rest) rest) b)
+          ∙ sym (ap (λ l. closed end (some (x, l))) (first_rest rest 0 g))
+          ∙ sym (ap (closed end) z)
+          ∙ through)
 
 -- a line, with the numbers of its first pairs at hand
 abbrev pub prefixed : Entry → Entirely → Entirely
@@ -102,31 +103,31 @@ pub line_step : (k name : ℕ) (bs : List ℕ) (x : ℤ) (r : List ℕ) → pair
 unfolding line_at
 line_step k name bs x r e = rw (e, line_at) refl
 
-module _ (text : List ℕ) (at k : ℕ) (f : List ℤ) (next i : ℕ)
-    (inv : line_at k 97 (drop at text) ≡ prefixed (take i f) (line_at (k - i) (97 + i) (drop next text))) where
-  pub line-done : k ≤ i → i ≤ k → line_at k 97 (drop at text) ≡ some (take k f, drop next text)
+module _ (text : List ℕ) (k : ℕ) (f : List ℤ) (left : List ℕ) (i : ℕ)
+    (inv : line_at k 97 text ≡ prefixed (take i f) (line_at (k - i) (97 + i) left)) where
+  pub line-done : i ≡ k → some (take k f, left) ≡ line_at k 97 text
   unfolding line_at
-  line-done g h =
+  line-done e =
       let z : k - i ≡ 0 = omega arith in
-      let e : i ≡ k = omega arith in
-      inv ∙ rw (z, e) (prefixed-end (take k f) (drop next text))
+      sym (inv ∙ rw (z, e) (prefixed-end (take k f) left))
 
-  module _ (h : i < k) (end : ℕ) (ee : end ≡ end_byte_of (k - i)) (ok : Bool) (x : ℤ) (rest : List ℕ)
-      (e : pair_at (97 + i) end (drop next text) ≡ told ok x rest) where
-    pub line-none : not ok ≡ true → line_at k 97 (drop at text) ≡ none
-    line-none o =
-        let m : k - i ≡ suc (k - (i + 1)) = omega arith in
-        let s : pair_at (97 + i) (end_byte_of (suc (k - (i + 1)))) (drop next text) ≡ none = rw (← m, ← ee) (e ∙ rw (not-true ok o) refl) in
-        inv ∙ rw m (ap (prefixed (take i f)) (line-stop (k - (i + 1)) (97 + i) (drop next text) s)) ∙ prefixed-none (take i f)
+  module _ (h : i < k) (end : ℕ) (ee : end ≡ end_byte_of (k - i)) where
+    m : k - i ≡ suc (k - (i + 1))
+    m = omega arith
 
-    pub line-more : not ok ≡ false → i < length f → (y : ℤ) → y ≡ x → line_at k 97 (drop at text) ≡ prefixed (take (i + 1) (set f i y)) (line_at (k - (i + 1)) (97 + (i + 1)) rest)
-    line-more o l y v =
-        let m : k - i ≡ suc (k - (i + 1)) = omega arith in
+    pub line-none : none ≡ pair_at (97 + i) end left → none ≡ line_at k 97 text
+    line-none e =
+        let s : pair_at (97 + i) (end_byte_of (suc (k - (i + 1)))) left ≡ none = rw (← m, ← ee) (sym e) in
+        sym (inv ∙ rw m (ap (prefixed (take i f)) (line-stop (k - (i + 1)) (97 + i) left s)) ∙ prefixed-none (take i f))
+
+    pub line-more : (x : ℤ) (rest : List ℕ) → some (x, rest) ≡ pair_at (97 + i) end left → i < length f → (y : ℤ) → y ≡ x
+        → line_at k 97 text ≡ prefixed (take (i + 1) (set f i y)) (line_at (k - (i + 1)) (97 + (i + 1)) rest)
+    line-more x rest e l y v =
         let b : 97 + (i + 1) ≡ suc (97 + i) = omega arith in
-        let s : pair_at (97 + i) (end_byte_of (suc (k - (i + 1)))) (drop next text) ≡ some (x, rest) = rw (← m, ← ee) (e ∙ rw (not-false ok o) refl) in
+        let s : pair_at (97 + i) (end_byte_of (suc (k - (i + 1)))) left ≡ some (x, rest) = rw (← m, ← ee) (sym e) in
         let t : take (i + 1) (set f i y) ≡ take i f ++ (y ∷ []) = rw (add-one i) (take-suc-set f i y l) in
-        let p : line_at (k - i) (97 + i) (drop next text) ≡ consed x (line_at (k - (i + 1)) (suc (97 + i)) rest) =
-        rw m (line_step (k - (i + 1)) (97 + i) (drop next text) x rest s) in
+        let p : line_at (k - i) (97 + i) left ≡ consed x (line_at (k - (i + 1)) (suc (97 + i)) rest) =
+        rw m (line_step (k - (i + 1)) (97 + i) left x rest s) in
         inv ∙ ap (prefixed (take i f)) p ∙ rw (b, t, v) (prefixed-more (take i f) x (line_at (k - (i + 1)) (suc (97 + i)) rest))
 
 -- what is behind the pairs read so far stays 0
@@ -134,8 +135,3 @@ pub fill_on : (f : List ℤ) (i : ℕ) (y : ℤ) → drop i f ≡ replicate (4 -
 fill_on f i y e h =
     let m : 4 - i ≡ suc (4 - (i + 1)) = omega arith in
     drop-set-lt (i + 1) f i y (omega arith) ∙ sym (drop-drop 1 i f) ∙ ap (drop 1) (e ∙ ap (λ n. replicate n (pos 0)) m)
-
-pub filled-all : (f : List ℤ) (k i : ℕ) → k ≤ i → i ≤ k → drop i f ≡ replicate (4 - i) (pos 0) → f ≡ take k f ++ replicate (4 - k) (pos 0)
-filled-all f k i g h e =
-    let q : i ≡ k = omega arith in
-    sym (take-append-drop k f) ∙ ap (λ l. take k f ++ l) (rw q at e)

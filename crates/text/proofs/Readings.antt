@@ -1,27 +1,26 @@
--- What each test on a byte of the text tells of the strict reading from a place on.
+-- What each test on the first byte of what is left tells of its strict reading.
 use mathlib.Core.Path.{◌≡◌, refl, sym, ap, ap₂, ◌∙◌}
 use mathlib.Core.List.{List, [], ◌∷◌}
 use mathlib.Core.Option.{Option, none, some}
-use mathlib.Core.Bool.{Bool, true, false, not, ◌&&◌}
+use mathlib.Core.Bool.{Bool, true, false, ◌&&◌}
 use Prim.Native.Nat.{ℕ, zero, suc, ◌+◌, ◌-◌, ◌*◌, ◌≤◌, ◌<◌}
 use native.Mathlib.Omega.{arith}
-use native.Mathlib.Numerals.{add-one}
 use lib.Dec.{eqb, leb}
 use lib.IntN.{ℤ, pos}
-use lib.ListN.{length, get_or, drop, drop_of_length-le}
-use lib.Seq.{drop-cons}
-use borrow.Author.Tests.{eq-eqb, eqb-false, eqb-true, ne_eqb, le-leb, leb-true, not-false, not-true, lt-leb, lt-ltb, le-ltb}
+use lib.ListN.{length, get_or}
+use borrow.Author.Tests.{eq-eqb, eqb-false, eqb-true, ne_eqb, le-leb, leb-true, lt-leb, lt-ltb, le-ltb}
 use mir.Syntax.{w64}
-use mir.Val.{to_z, of_z}
-use mir.ValLaws.{to_z_pos}
+use mir.Val.{SFits, to_z, of_z}
+use mir.ValLaws.{to_z-of_z}
+use Rattle.std.proofs.Common.{inl, inr, Result, Ok, Err, Some, None}
+use Rattle.std.specs.Result.{OkIff, result_ok}
+use Rattle.std.proofs.lemmas.Bool.{cases_lt}
 use Rattle.model.specs.Text.{minus}
 use Rattle.model.proofs.Trees.{both, pair}
-use Rattle.text.specs.Strict.{above, below, capped, decimal_at, grown, number_at, small}
-use Rattle.text.specs.Told.{told}
+use Rattle.text.specs.Strict.{Decimally, above, below, capped, decimal_at, grown, number_at, small}
+use Rattle.std.specs.List.{between}
+use Rattle.std.proofs.lemmas.Slice.{first_rest}
 use Rattle.print.proofs.Signs.{minus-back}
-
-pub front : (text : List ℕ) (at : ℕ) → at < length text → drop at text ≡ get_or text at 0 ∷ drop (at + 1) text
-front text at h = rw (add-one at) (drop-cons text at 0 h)
 
 pub unsome : {A : Type 0} {x y : A} → some x ≡ some y → x ≡ y
 unsome h = cc
@@ -39,11 +38,13 @@ right-false false b h = refl
 digit-yes : (b : ℕ) → 48 ≤ b → b ≤ 57 → (leb 48 b && leb b 57) ≡ true
 digit-yes b g h = pair (le-leb 48 b g) (le-leb b 57 h)
 
-digit_low : (b : ℕ) → b < 48 → (leb 48 b && leb b 57) ≡ false
-digit_low b h = left_false (leb 48 b) (leb b 57) (lt-leb 48 b h)
-
-digit-high : (b : ℕ) → 57 < b → (leb 48 b && leb b 57) ≡ false
-digit-high b h = right-false (leb 48 b) (leb b 57) (lt-leb b 57 h)
+no_digit : (b : ℕ) → (48 ≤ b → b ≤ 57 → ⊥) → (leb 48 b && leb b 57) ≡ false
+no_digit b n = go (leb 48 b) refl (leb b 57) refl
+  where
+    go : (o : Bool) → leb 48 b ≡ o → (t : Bool) → leb b 57 ≡ t → (leb 48 b && leb b 57) ≡ false
+    go false x t y = left_false (leb 48 b) (leb b 57) x
+    go true x false y = right-false (leb 48 b) (leb b 57) y
+    go true x true y = absurd (n (leb-true 48 b x) (leb-true b 57 y))
 
 -- a digit more
 pub grown-cap : (n d : ℕ) → 922337203685477580 < n → grown n d ≡ 9223372036854775809
@@ -63,22 +64,18 @@ pub capped-step : (b n : ℕ) (bs : List ℕ) → 48 ≤ b → b ≤ 57 → capp
 unfolding capped
 capped-step b n bs g h = rw (digit-yes b g h, capped) refl
 
-module _ (text : List ℕ) (at value next sum : ℕ) (inv : capped (drop at text) value ≡ capped (drop next text) sum) where
-  pub digits-out : length text ≤ next → capped (drop at text) value ≡ (sum, drop next text)
+-- a turn over what is left, and its end
+module _ (text left : List ℕ) (value sum : ℕ) (inv : capped text value ≡ capped left sum) where
+  pub digits-on : (more : ℕ) → 1 ≤ length left → 48 ≤ get_or left 0 0 → get_or left 0 0 ≤ 57 → more ≡ grown sum (get_or left 0 0 - 48) → capped text value ≡ capped (between 1 (length left) left) more
+  digits-on more h a b e = inv ∙ ap (λ l. capped l sum) (first_rest left 0 h) ∙ capped-step (get_or left 0 0) sum (between 1 (length left) left) a b ∙ rw e refl
+
+  pub digits-off : (1 ≤ length left → 48 ≤ get_or left 0 0 → get_or left 0 0 ≤ 57 → ⊥) → capped text value ≡ (sum, left)
   unfolding capped
-  digits-out h = inv ∙ rw (drop_of_length-le text h) refl
-
-  stop : next < length text → (leb 48 (get_or text next 0) && leb (get_or text next 0) 57) ≡ false → capped (drop at text) value ≡ (sum, drop next text)
-  stop h e = inv ∙ rw (front text next h) (capped-stop (get_or text next 0) sum (drop (next + 1) text) e)
-
-  pub digits_low : next < length text → get_or text next 0 < 48 → capped (drop at text) value ≡ (sum, drop next text)
-  digits_low h e = stop h (digit_low (get_or text next 0) e)
-
-  pub digits-high : next < length text → 57 < get_or text next 0 → capped (drop at text) value ≡ (sum, drop next text)
-  digits-high h e = stop h (digit-high (get_or text next 0) e)
-
-  pub digits-on : (more : ℕ) → next < length text → 48 ≤ get_or text next 0 → get_or text next 0 ≤ 57 → more ≡ grown sum (get_or text next 0 - 48) → capped (drop at text) value ≡ capped (drop (next + 1) text) more
-  digits-on more h a b e = inv ∙ rw (front text next h, e) (capped-step (get_or text next 0) sum (drop (next + 1) text) a b)
+  digits-off n = inv ∙ off left n
+    where
+      off : (l : List ℕ) → (1 ≤ length l → 48 ≤ get_or l 0 0 → get_or l 0 0 ≤ 57 → ⊥) → capped l sum ≡ (sum, l)
+      off [] n = refl
+      off (b ∷ bs) n = capped-stop b sum bs (no_digit b (n (omega arith)))
 
 -- a decimal
 pub zero-at : (b : ℕ) (bs : List ℕ) → b ≡ 48 → decimal_at (b ∷ bs) ≡ some (0, bs)
@@ -93,34 +90,27 @@ pub some_at : (b : ℕ) (bs : List ℕ) → (b ≡ 48 → ⊥) → 48 ≤ b → 
 unfolding decimal_at
 some_at b bs h l r = rw (ne_eqb b 48 h, decimal_at) (rw (digit-yes b l r) refl)
 
-module _ (text : List ℕ) (at : ℕ) where
-  pub decimal-out : at ≡ length text → decimal_at (drop at text) ≡ none
-  unfolding decimal_at
-  decimal-out h = rw (drop_of_length-le text {i = at} (omega arith)) refl
+pub decimal-zero : (text : List ℕ) → 1 ≤ length text → get_or text 0 0 ≡ 48 → some (0, between 1 (length text) text) ≡ decimal_at text
+decimal-zero text h e = sym (ap decimal_at (first_rest text 0 h) ∙ zero-at (get_or text 0 0) (between 1 (length text) text) e)
 
-  module _ (h : (at ≡ length text → ⊥)) (inside : at ≤ length text) where
-    here : drop at text ≡ get_or text at 0 ∷ drop (at + 1) text
-    here = front text at (omega arith)
+pub decimal-none : (text : List ℕ) → (1 ≤ length text → 48 ≤ get_or text 0 0 → get_or text 0 0 ≤ 57 → ⊥) → none ≡ decimal_at text
+unfolding decimal_at
+decimal-none [] n = refl
+decimal-none (b ∷ bs) n = sym (none-at b bs (λ e. n (omega arith) (omega arith) (omega arith)) (no_digit b (n (omega arith))))
 
-    pub decimal-zero : get_or text at 0 ≡ 48 → decimal_at (drop at text) ≡ some (0, drop (at + 1) text)
-    decimal-zero e = rw here (zero-at (get_or text at 0) (drop (at + 1) text) e)
+module _ (text : List ℕ) (h : 1 ≤ length text) (l : 49 ≤ get_or text 0 0) (r : get_or text 0 0 ≤ 57)
+    (digit value : ℕ) (rest : List ℕ) (d : digit ≡ get_or text 0 0 - 48) (e : capped (between 1 (length text) text) digit ≡ (value, rest)) where
+  through : decimal_at text ≡ small (value, rest)
+  through =
+      ap decimal_at (first_rest text 0 h)
+      ∙ some_at (get_or text 0 0) (between 1 (length text) text) (λ z. omega arith) (omega arith) r
+      ∙ ap small (ap (capped (between 1 (length text) text)) (sym d) ∙ e)
 
-    pub decimal-low : (get_or text at 0 ≡ 48 → ⊥) → get_or text at 0 < 48 → decimal_at (drop at text) ≡ none
-    decimal-low n e = rw here (none-at (get_or text at 0) (drop (at + 1) text) n (digit_low (get_or text at 0) e))
+  pub decimal-big : 9223372036854775808 < value → none ≡ decimal_at text
+  decimal-big g = sym (through ∙ rw (lt-leb value 9223372036854775808 g, small) refl)
 
-    pub decimal-high : (get_or text at 0 ≡ 48 → ⊥) → 57 < get_or text at 0 → decimal_at (drop at text) ≡ none
-    decimal-high n e = rw here (none-at (get_or text at 0) (drop (at + 1) text) n (digit-high (get_or text at 0) e))
-
-    module _ (n : (get_or text at 0 ≡ 48 → ⊥)) (l : 48 ≤ get_or text at 0) (r : get_or text at 0 ≤ 57)
-        (value next : ℕ) (e : capped (drop (at + 1) text) (get_or text at 0 - 48) ≡ (value, drop next text)) where
-      through : decimal_at (drop at text) ≡ small (value, drop next text)
-      through = rw here (some_at (get_or text at 0) (drop (at + 1) text) n l r) ∙ ap small e
-
-      pub decimal-big : 9223372036854775808 < value → decimal_at (drop at text) ≡ none
-      decimal-big g = through ∙ rw (lt-leb value 9223372036854775808 g, small) refl
-
-      pub decimal-is : value ≤ 9223372036854775808 → decimal_at (drop at text) ≡ some (value, drop next text)
-      decimal-is g = through ∙ rw (le-leb value 9223372036854775808 g, small) refl
+  pub decimal-is : value ≤ 9223372036854775808 → some (value, rest) ≡ decimal_at text
+  decimal-is g = sym (through ∙ rw (le-leb value 9223372036854775808 g, small) refl)
 
 small-bound : (d : ℕ × List ℕ) (v : ℕ) (r : List ℕ) → small d ≡ some (v, r) → (d ≡ (v, r)) × (v ≤ 9223372036854775808)
 small-bound d v r e = go (leb d.0 9223372036854775808) refl
@@ -182,45 +172,56 @@ above-big : (v : ℕ) (r : List ℕ) → 9223372036854775808 ≤ v → above (so
 unfolding above
 above-big v r h = rw (le-ltb v 9223372036854775808 h, above) refl
 
-module _ (text : List ℕ) (at : ℕ) where
-  pub number-out : at ≡ length text → number_at (drop at text) ≡ none
-  unfolding number_at
-  number-out h = rw (drop_of_length-le text {i = at} (omega arith)) refl
+module _ (text : List ℕ) (h : 1 ≤ length text) (m : get_or text 0 0 ≡ 45) (o : Decimally) (e : o ≡ decimal_at (between 1 (length text) text)) where
+  minus-through : below o ≡ number_at text
+  minus-through = ap below e ∙ sym (ap number_at (first_rest text 0 h) ∙ minus-at (get_or text 0 0) (between 1 (length text) text) m)
 
-  module _ (h : (at ≡ length text → ⊥)) (inside : at ≤ length text) (ok : Bool) (value : ℕ) (rest : List ℕ) where
-    here2 : drop at text ≡ get_or text at 0 ∷ drop (at + 1) text
-    here2 = front text at (omega arith)
+  pub minus-none : o ≡ none → none ≡ number_at text
+  unfolding below
+  minus-none q = sym (ap below q) ∙ minus-through
 
-    module _ (m : get_or text at 0 ≡ 45) (e : decimal_at (drop (at + 1) text) ≡ told ok value rest) where
-      minus-through : number_at (drop at text) ≡ below (told ok value rest)
-      minus-through = rw here2 (minus-at (get_or text at 0) (drop (at + 1) text) m) ∙ ap below e
+  module _ (value : ℕ) (rest : List ℕ) (q : o ≡ some (value, rest)) where
+    pub minus-small : value ≤ 9223372036854775808
+    minus-small = decimal-bound (between 1 (length text) text) value rest (sym e ∙ q)
 
-      pub minus-none : not ok ≡ true → number_at (drop at text) ≡ none
-      unfolding below
-      minus-none q = minus-through ∙ rw (not-true ok q) refl
+    pub minus-zero : value ≡ 0 → none ≡ number_at text
+    unfolding below
+    minus-zero z = rw z at (sym (ap below q) ∙ minus-through)
 
-      pub minus-zero : not ok ≡ false → value ≡ 0 → number_at (drop at text) ≡ none
-      unfolding below
-      minus-zero q z = minus-through ∙ rw (not-false ok q, z) refl
+    pub minus_is : (value ≡ 0 → ⊥) → (x : ℤ) → x ≡ minus value → some (to_z w64 (of_z w64 x), rest) ≡ number_at text
+    minus_is z x f =
+        let b : to_z w64 (of_z w64 x) ≡ minus value = ap (λ y. to_z w64 (of_z w64 y)) f ∙ minus-back value minus-small in
+        rw b (sym (below-is value rest (omega arith)) ∙ sym (ap below q) ∙ minus-through)
 
-      pub minus-small : not ok ≡ false → value ≤ 9223372036854775808
-      minus-small q = decimal-bound (drop (at + 1) text) value rest (e ∙ rw (not-false ok q) refl)
+-- whether a value has an i64, as the machine tells it
+module _ {E : Type 0} (v : ℕ) where
+  too_big : (r : Result ℤ E) → OkIff r (SFits w64 (pos v)) (pos v) → result_ok r ≡ None → 9223372036854775808 ≤ v
+  too_big (Ok x) k z = cc
+  too_big (Err e) k z = elim (cases_lt v 9223372036854775808) [ inl l ↦ absurd (k (record { sfits = l })) | inr g ↦ g ]
 
-      pub minus_is : not ok ≡ false → (value ≡ 0 → ⊥) → (x : ℤ) → x ≡ minus value → number_at (drop at text) ≡ some (to_z w64 (of_z w64 x), rest)
-      minus_is q z x f =
-          let b : to_z w64 (of_z w64 x) ≡ minus value = ap (λ y. to_z w64 (of_z w64 y)) f ∙ minus-back value (minus-small q) in
-          minus-through ∙ rw (not-false ok q, b) (below-is value rest (omega arith))
+  fits : (r : Result ℤ E) (x : ℤ) → OkIff r (SFits w64 (pos v)) (pos v) → result_ok r ≡ Some x → (x ≡ pos v) × (v < 9223372036854775808)
+  fits (Ok y) x k z = let f = k.0.sfits in (cc, f)
+  fits (Err e) x k z = cc
 
-    module _ (m : (get_or text at 0 ≡ 45 → ⊥)) (e : decimal_at (drop at text) ≡ told ok value rest) where
-      plain-through : number_at (drop at text) ≡ above (told ok value rest)
-      plain-through = rw here2 (plain_at (get_or text at 0) (drop (at + 1) text) m) ∙ ap above (ap decimal_at (sym here2) ∙ e)
+module _ (text : List ℕ) (m : 1 ≤ length text → get_or text 0 0 ≡ 45 → ⊥) (o : Decimally) (e : o ≡ decimal_at text) where
+  plain-through : above o ≡ number_at text
+  unfolding number_at decimal_at above
+  plain-through = ap above e ∙ sym (plain text m)
+    where
+      plain : (l : List ℕ) → (1 ≤ length l → get_or l 0 0 ≡ 45 → ⊥) → number_at l ≡ above (decimal_at l)
+      plain [] n = refl
+      plain (b ∷ bs) n = plain_at b bs (n (omega arith))
 
-      pub plain-none : not ok ≡ true → number_at (drop at text) ≡ none
-      unfolding above
-      plain-none q = plain-through ∙ rw (not-true ok q) refl
+  pub plain-none : o ≡ none → none ≡ number_at text
+  unfolding above
+  plain-none q = sym (ap above q) ∙ plain-through
 
-      pub plain-big : not ok ≡ false → 9223372036854775807 < value → number_at (drop at text) ≡ none
-      plain-big q g = plain-through ∙ rw (not-false ok q) (above-big value rest (omega arith))
+  module _ (value : ℕ) (rest : List ℕ) (q : o ≡ some (value, rest)) where
+    pub plain-big : {E : Type 0} (r : Result ℤ E) → OkIff r (SFits w64 (pos value)) (pos value) → result_ok r ≡ None → none ≡ number_at text
+    plain-big r k z = sym (above-big value rest (too_big value r k z)) ∙ sym (ap above q) ∙ plain-through
 
-      pub plain-is : not ok ≡ false → value ≤ 9223372036854775807 → number_at (drop at text) ≡ some (to_z w64 value, rest)
-      plain-is q g = plain-through ∙ rw (not-false ok q, to_z_pos w64 value (omega arith)) (above-is value rest (omega arith))
+    pub plain-is : {E : Type 0} (r : Result ℤ E) (x : ℤ) → OkIff r (SFits w64 (pos value)) (pos value) → result_ok r ≡ Some x → some (to_z w64 (of_z w64 x), rest) ≡ number_at text
+    plain-is r x k z =
+        let f = fits value r x k z in
+        let b : to_z w64 (of_z w64 x) ≡ pos value = rw f.0 (to_z-of_z w64 (pos value) (record { sfits = f.1 })) in
+        rw b (sym (above-is value rest f.1) ∙ sym (ap above q) ∙ plain-through)

@@ -2,12 +2,11 @@
 use mathlib.Core.Path.{◌≡◌, refl, sym, ap, ap₂, ◌∙◌}
 use mathlib.Core.List.{List, [], ◌∷◌, ◌++◌}
 use mathlib.Core.Option.{Option, none, some}
-use mathlib.Core.Bool.{Bool, true, false, not, ◌&&◌}
+use mathlib.Core.Bool.{Bool, true, false, ◌&&◌}
 use Prim.Native.Nat.{ℕ, ◌≤◌}
 use native.Mathlib.Omega.{arith}
 use lib.Dec.{eqb, leb}
-use lib.ListN.{drop}
-use borrow.Author.Tests.{eqb-false, eqb-true, le-leb, leb-true, not-false, not-true}
+use borrow.Author.Tests.{eqb-true, le-leb, leb-true}
 use Rattle.model.specs.Text.{body, broken, cut_line, decimal, parse, title, title_of_line}
 use Rattle.model.proofs.Lists.{Every, every-join}
 use Rattle.model.proofs.Prints.{High, KN, Parted, cut-back, cut-join, decimal-high, title-back, title-line}
@@ -15,29 +14,12 @@ use Rattle.model.proofs.Texts.{parse-by}
 use Rattle.model.proofs.Trees.{both, pair}
 use Rattle.text.specs.Strict.{Decimally, after_at, title_at, title_end, is_fitting_title, word_at}
 use Rattle.print.specs.Title.{entries_word, fields_word}
-use Rattle.text.specs.Told.{told, summed}
-use Rattle.text.specs.declared.Saved.{Saved}
-use Rattle.text.specs.declared.Saved.TheVariants.{Broken}
+use Rattle.std.proofs.Common.{Err}
+use Rattle.text.specs.Told.{summed}
 use Rattle.text.proofs.NumberBack.{Stops, decimal-complete, decimal-sound}
 use Rattle.text.proofs.Readings.{not_none, unsome}
-use Rattle.text.proofs.Words.{end-right, end-wrong, title-first, title-second, title-through, word_next, word-other}
+use Rattle.text.proofs.Words.{end-right, end-wrong, title-first, title-second, title-through, word_sound, word-complete}
 use Rattle.print.proofs.Writes.{title-pieces}
-
--- a word
-word_sound : (w bs r : List ℕ) → word_at w bs ≡ some r → bs ≡ w ++ r
-unfolding word_at
-word_sound [] bs r e = unsome e
-word_sound (x ∷ w) [] r e = not_none e
-word_sound (x ∷ w) (b ∷ bs) r e = go (eqb b x) refl (word_sound w bs r)
-  where
-    go : (o : Bool) → eqb b x ≡ o → (word_at w bs ≡ some r → bs ≡ w ++ r) → b ∷ bs ≡ x ∷ (w ++ r)
-    go true q ih = let m = eqb-true b x q in ap₂ (λ h l. h ∷ l) m (ih (sym (word_next x w b bs m) ∙ e))
-    go false q ih = not_none (sym (word-other x w b bs (eqb-false b x q)) ∙ e)
-
-word-complete : (w r : List ℕ) → word_at w (w ++ r) ≡ some r
-unfolding word_at
-word-complete [] r = refl
-word-complete (x ∷ w) r = word_next x w x (w ++ r) refl ∙ word-complete w r
 
 -- a word and a decimal
 after-sound : (w bs : List ℕ) (v : ℕ) (r : List ℕ) → after_at w bs ≡ some (v, r) → bs ≡ w ++ (decimal v ++ r)
@@ -128,16 +110,13 @@ parse-bad text e = parse-by (λ p. p ≡ broken 1) text (λ x. refl) (λ c x y. 
         let p : text ≡ title kn.0 kn.1 ++ (10 ∷ c.1) = cut-join text c x ∙ ap (λ l. l ++ (10 ∷ c.1)) (sym t.0) in
         not_none (sym e ∙ ap title_at p ∙ title-complete kn.0 kn.1 c.1 t.1 t.2 t.3)
 
-module _ (text : List ℕ) (ok : Bool) (k n next : ℕ) (e : title_at text ≡ told ok (k, n) (drop next text)) where
-  pub text-bad : not ok ≡ true → Broken 1 ≡ summed (parse text)
-  text-bad o = sym (ap summed (parse-bad text (e ∙ rw (not-true ok o) refl)))
+module _ (text : List ℕ) where
+  pub text-bad : none ≡ title_at text → Err (record { line = 1 }) ≡ summed (parse text)
+  text-bad e = sym (ap summed (parse-bad text (sym e)))
 
-  module _ (o : not ok ≡ false) where
-    titled : title_at text ≡ some ((k, n), drop next text)
-    titled = e ∙ rw (not-false ok o) refl
-
+  module _ (k n : ℕ) (left : List ℕ) (e : some ((k, n), left) ≡ title_at text) where
     pub text-sizes : ((1 ≤ k) × (k ≤ 4)) × (n ≤ 4096)
-    text-sizes = let t = title-sound text k n (drop next text) titled in ((t.low, t.high), t.few)
+    text-sizes = let t = title-sound text k n left (sym e) in ((t.low, t.high), t.few)
 
-    pub text-body : (r : Saved) → r ≡ summed (body n k 2 none (drop next text)) → r ≡ summed (parse text)
-    text-body r q = q ∙ ap summed (sym (parse-good text k n (drop next text) titled))
+    pub text-body : summed (body n k 2 none left) ≡ summed (parse text)
+    text-body = ap summed (sym (parse-good text k n left (sym e)))

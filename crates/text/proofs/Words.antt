@@ -1,33 +1,21 @@
 -- What each test tells of the strict reading of the first line.
-use mathlib.Core.Path.{◌≡◌, refl, sym, ◌∙◌}
-use mathlib.Core.List.{List, [], ◌∷◌}
-use mathlib.Core.Option.{none, some}
-use mathlib.Core.Bool.{Bool, true, false, not, ◌&&◌}
-use Prim.Native.Nat.{ℕ, ◌+◌, ◌-◌, ◌≤◌, ◌<◌}
+use mathlib.Core.Path.{◌≡◌, refl, sym, ap, ap₂, ◌∙◌}
+use mathlib.Core.List.{List, [], ◌∷◌, ◌++◌}
+use mathlib.Core.Option.{Option, none, some}
+use mathlib.Core.Bool.{Bool, true, false, ◌&&◌}
+use Prim.Native.Nat.{ℕ, ◌≤◌}
 use native.Mathlib.Omega.{arith}
-use lib.Dec.{eqb, leb}
-use lib.ListN.{length, get_or, drop, length-drop, drop_of_length-le}
-use borrow.Author.Tests.{eq-eqb, le-leb, lt-leb, ne_eqb, not-false, not-true}
-use Rattle.model.proofs.Trees.{pair}
+use lib.Dec.{eqb}
+use lib.ListN.{length, get_or}
+use borrow.Author.Tests.{eq-eqb, eqb-false, eqb-true, ne_eqb}
+use Rattle.model.proofs.Trees.{both, pair}
 use Rattle.text.specs.Strict.{Decimally, after_at, decimal_at, title_at, title_end, is_fitting_title, word_at}
 use Rattle.print.specs.Title.{entries_word, fields_word}
-use Rattle.text.specs.Told.{passed, told}
-use Rattle.text.proofs.Readings.{front, left_false, right-false}
+use Rattle.std.specs.List.{between}
+use Rattle.std.proofs.lemmas.Slice.{first_rest}
+use Rattle.text.proofs.Readings.{not_none, unsome}
 
 -- a word
-word-little : (w bs : List ℕ) → length bs < length w → word_at w bs ≡ none
-unfolding word_at
-word-little [] bs h = absurd (omega arith)
-word-little (x ∷ w) [] h = refl
-word-little (x ∷ w) (b ∷ bs) h = go (eqb b x) refl (word-little w bs (omega arith))
-  where
-    go : (o : Bool) → eqb b x ≡ o → word_at w bs ≡ none → word_at (x ∷ w) (b ∷ bs) ≡ none
-    go true e ih = rw (e, word_at) ih
-    go false e ih = rw (e, word_at) refl
-
-pub word-short : (text word : List ℕ) (at : ℕ) → length text - at < length word → word_at word (drop at text) ≡ none
-word-short text word at h = word-little word (drop at text) (let d = length-drop at text in omega arith)
-
 pub word_next : (w : ℕ) (ws : List ℕ) (b : ℕ) (bs : List ℕ) → b ≡ w → word_at (w ∷ ws) (b ∷ bs) ≡ word_at ws bs
 unfolding word_at
 word_next w ws b bs h = rw (eq-eqb b w h, word_at) refl
@@ -36,43 +24,34 @@ pub word-other : (w : ℕ) (ws : List ℕ) (b : ℕ) (bs : List ℕ) → (b ≡ 
 unfolding word_at
 word-other w ws b bs h = rw (ne_eqb b w h, word_at) refl
 
-pub word-start : (text word : List ℕ) (at : ℕ) → word_at word (drop at text) ≡ word_at (drop 0 word) (drop (at + 0) text)
-word-start text word at = let e : at + 0 ≡ at = omega arith in rw e refl
+pub word_sound : (w bs r : List ℕ) → word_at w bs ≡ some r → bs ≡ w ++ r
+unfolding word_at
+word_sound [] bs r e = unsome e
+word_sound (x ∷ w) [] r e = not_none e
+word_sound (x ∷ w) (b ∷ bs) r e = go (eqb b x) refl (word_sound w bs r)
+  where
+    go : (o : Bool) → eqb b x ≡ o → (word_at w bs ≡ some r → bs ≡ w ++ r) → b ∷ bs ≡ x ∷ (w ++ r)
+    go true q ih = let m = eqb-true b x q in ap₂ (λ h l. h ∷ l) m (ih (sym (word_next x w b bs m) ∙ e))
+    go false q ih = not_none (sym (word-other x w b bs (eqb-false b x q)) ∙ e)
 
-module _ (text word : List ℕ) (at i : ℕ) (inv : word_at word (drop at text) ≡ word_at (drop i word) (drop (at + i) text)) where
-  pub word-done : length word ≤ i → i ≤ length word → word_at word (drop at text) ≡ some (drop (at + length word) text)
-  unfolding word_at
-  word-done g h =
-      let e : i ≡ length word = omega arith in
-      inv ∙ rw (drop_of_length-le word g, e) refl
-
-  module _ (h : i < length word) (room : at + i < length text) where
-    pub word-wrong : (get_or text (at + i) 0 ≡ get_or word i 0 → ⊥) → word_at word (drop at text) ≡ none
-    word-wrong n = inv ∙ rw (front word i h, front text (at + i) room) (word-other (get_or word i 0) (drop (i + 1) word) (get_or text (at + i) 0) (drop (at + i + 1) text) n)
-
-    pub word_on : get_or text (at + i) 0 ≡ get_or word i 0 → word_at word (drop at text) ≡ word_at (drop (i + 1) word) (drop (at + (i + 1)) text)
-    word_on n =
-        let e : at + (i + 1) ≡ at + i + 1 = omega arith in
-        inv ∙ rw (front word i h, front text (at + i) room, e) (word_next (get_or word i 0) (drop (i + 1) word) (get_or text (at + i) 0) (drop (at + i + 1) text) n)
+pub word-complete : (w r : List ℕ) → word_at w (w ++ r) ≡ some r
+unfolding word_at
+word-complete [] r = refl
+word-complete (x ∷ w) r = word_next x w x (w ++ r) refl ∙ word-complete w r
 
 -- a word and a decimal
-pub after_none : (word bs rest : List ℕ) (ok : Bool) → word_at word bs ≡ passed ok rest → not ok ≡ true → after_at word bs ≡ none
-unfolding after_at
-after_none word bs rest ok e o = let w : word_at word bs ≡ none = e ∙ rw (not-true ok o) refl in rw (w, after_at) refl
+module _ (word bs : List ℕ) where
+  pub after_none : ((rest : List ℕ) → bs ≡ word ++ rest → ⊥) → none ≡ after_at word bs
+  unfolding after_at
+  after_none n = go (word_at word bs) refl
+    where
+      go : (o : Option (List ℕ)) → word_at word bs ≡ o → none ≡ after_at word bs
+      go none q = rw (q, after_at) refl
+      go (some r) q = absurd (n r (word_sound word bs r q))
 
-pub after_is : (word bs rest : List ℕ) (ok : Bool) (d : Decimally) → word_at word bs ≡ passed ok rest → not ok ≡ false → decimal_at rest ≡ d → after_at word bs ≡ d
-unfolding after_at
-after_is word bs rest ok d e o f = let w : word_at word bs ≡ some rest = e ∙ rw (not-false ok o) refl in rw (w, after_at) f
-
--- the numbers of the first line
-pub fits_low : (k n : ℕ) → k < 1 → false ≡ is_fitting_title k n
-fits_low k n h = sym (left_false (leb 1 k && leb k 4) (leb n 4096) (left_false (leb 1 k) (leb k 4) (lt-leb 1 k h)))
-
-pub fits-high : (k n : ℕ) → 4 < k → false ≡ is_fitting_title k n
-fits-high k n h = sym (left_false (leb 1 k && leb k 4) (leb n 4096) (right-false (leb 1 k) (leb k 4) (lt-leb k 4 h)))
-
-pub fits-rest : (k n : ℕ) → 1 ≤ k → k ≤ 4 → leb n 4096 ≡ is_fitting_title k n
-fits-rest k n g h = rw (le-leb 1 k g, le-leb k 4 h) refl
+  pub after_is : (rest : List ℕ) (d : Decimally) → bs ≡ word ++ rest → d ≡ decimal_at rest → d ≡ after_at word bs
+  unfolding after_at
+  after_is rest d e f = let w : word_at word bs ≡ some rest = ap (word_at word) e ∙ word-complete word rest in rw (w, after_at) f
 
 -- the first line
 pub end-right : (k n b : ℕ) (r : List ℕ) → b ≡ 10 → is_fitting_title k n ≡ true → title_end k n (b ∷ r) ≡ some ((k, n), r)
@@ -95,32 +74,29 @@ pub title-second : (bs : List ℕ) (k : ℕ) (r : List ℕ) → after_at fields_
 unfolding title_at
 title-second bs k r e f = rw (e, title_at) (rw f refl)
 
-module _ (text : List ℕ) (ok : Bool) (k : ℕ) (next : ℕ) (e : after_at fields_word text ≡ told ok k (drop next text)) where
-  pub title-none : not ok ≡ true → title_at text ≡ none
-  title-none o = title-first text (e ∙ rw (not-true ok o) refl)
+module _ (text : List ℕ) where
+  pub title-none : none ≡ after_at fields_word text → none ≡ title_at text
+  title-none e = sym (title-first text (sym e))
 
-  module _ (o : not ok ≡ false) (ok2 : Bool) (n : ℕ) (end : ℕ) (f : after_at entries_word (drop next text) ≡ told ok2 n (drop end text)) where
-    fields-are : after_at fields_word text ≡ some (k, drop next text)
-    fields-are = e ∙ rw (not-false ok o) refl
+  module _ (k : ℕ) (left : List ℕ) (e : some (k, left) ≡ after_at fields_word text) where
+    pub title-none2 : none ≡ after_at entries_word left → none ≡ title_at text
+    title-none2 f = sym (title-second text k left (sym e) (sym f))
 
-    pub title-none2 : not ok2 ≡ true → title_at text ≡ none
-    title-none2 p = title-second text k (drop next text) fields-are (f ∙ rw (not-true ok2 p) refl)
+    module _ (n : ℕ) (end : List ℕ) (f : some (n, end) ≡ after_at entries_word left) where
+      to_end : title_at text ≡ title_end k n end
+      to_end = title-through text k left n end (sym e) (sym f)
 
-    module _ (p : not ok2 ≡ false) where
-      to_end : title_at text ≡ title_end k n (drop end text)
-      to_end = title-through text k (drop next text) n (drop end text) fields-are (f ∙ rw (not-false ok2 p) refl)
-
-      pub title-out : end ≡ length text → title_at text ≡ none
+      pub title-open : (1 ≤ length end → get_or end 0 0 ≡ 10 → is_fitting_title k n ≡ true → ⊥) → none ≡ title_at text
       unfolding title_end
-      title-out z = to_end ∙ rw (drop_of_length-le text {i = end} (omega arith)) refl
+      title-open m = sym (to_end ∙ unended end m)
+        where
+          unended : (l : List ℕ) → (1 ≤ length l → get_or l 0 0 ≡ 10 → is_fitting_title k n ≡ true → ⊥) → title_end k n l ≡ none
+          unended [] m = refl
+          unended (b ∷ r) m = end-wrong k n b r (go (eqb b 10 && is_fitting_title k n) refl)
+            where
+              go : (o : Bool) → (eqb b 10 && is_fitting_title k n) ≡ o → o ≡ false
+              go true q = let t = both (eqb b 10) (is_fitting_title k n) q in absurd (m (omega arith) (eqb-true b 10 t.0) t.1)
+              go false q = refl
 
-      module _ (z : (end ≡ length text → ⊥)) (inside : end ≤ length text) where
-        pub title-open : (get_or text end 0 ≡ 10 → ⊥) → title_at text ≡ none
-        title-open b = to_end ∙ rw (front text end (omega arith)) (end-wrong k n (get_or text end 0) (drop (end + 1) text) (left_false (eqb (get_or text end 0) 10) (is_fitting_title k n) (ne_eqb (get_or text end 0) 10 b)))
-
-        module _ (b : get_or text end 0 ≡ 10) (fit : Bool) (g : fit ≡ is_fitting_title k n) where
-          pub title-misfit : not fit ≡ true → title_at text ≡ none
-          title-misfit q = to_end ∙ rw (front text end (omega arith)) (end-wrong k n (get_or text end 0) (drop (end + 1) text) (right-false (eqb (get_or text end 0) 10) (is_fitting_title k n) (sym g ∙ not-true fit q)))
-
-          pub title-is : not fit ≡ false → title_at text ≡ some ((k, n), drop (end + 1) text)
-          title-is q = to_end ∙ rw (front text end (omega arith)) (end-right k n (get_or text end 0) (drop (end + 1) text) b (sym g ∙ not-false fit q))
+      pub title-is : 1 ≤ length end → get_or end 0 0 ≡ 10 → is_fitting_title k n ≡ true → some ((k, n), between 1 (length end) end) ≡ title_at text
+      title-is g b fit = sym (to_end ∙ ap (title_end k n) (first_rest end 0 g) ∙ end-right k n (get_or end 0 0) (between 1 (length end) end) b fit)

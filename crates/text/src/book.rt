@@ -1,80 +1,71 @@
 // Reading a whole text: the first line, then entry lines that rise, then nothing.
-ghost use Rattle.std.specs.Prelude.{◌≡◌, List, ℕ, ◌+◌, ◌≤◌, length, take, drop};
+ghost use Rattle.std.specs.Prelude.{◌≡◌, ◌==◌, List, ℕ, ◌≤◌, take, position};
 ghost use Rattle.std.proofs.Math.Option.{some, none};
 ghost use Rattle.model.specs.Text.{body, cut_line, parse, rises};
 ghost use Rattle.text.specs.Told.{last_of, summed};
 
-use crate::Saved;
+use crate::Broken;
 use crate::line::read_line;
-use crate::title::read_title;
-use cells::order::Order;
+use crate::title::{Title, read_title};
+use cells::order::in_order;
 
-// The place behind the first line.
-pub fn first_entry(text: &[u8]) -> usize
+// The place of the first LF, if there is one.
+fn line_end(text: &[u8]) -> Option<usize>
+    ensures { result ≡ position (λ b. b == 10) text.now }
+{
+    text.iter().position(|b| *b == b'\n')
+}
+
+// What stands behind the first line.
+pub fn first_entry(text: &[u8]) -> &[u8]
     requires { (c : List ℕ × List ℕ) × (cut_line text.now ≡ some c) }
-    ensures { ((c : List ℕ × List ℕ) → cut_line text.now ≡ some c → drop result text.now ≡ c.1) × (result ≤ length text.now) }
+    ensures { (c : List ℕ × List ℕ) → cut_line text.now ≡ some c → result.now ≡ c.1 }
 {
-    let mut at: usize = 0;
-    while at < text.len() {
-        if text[at] == b'\n' {
-            return at + 1;
-        }
-        at += 1;
-    }
-    at
+    let end = line_end(text).unwrap();
+    &text[end + 1..]
 }
 
-// Whether the entry behind i others comes after the last of them.
-fn follows(i: usize, last: [i64; 4], next: [i64; 4], k: usize) -> bool
+// Whether an entry comes after the one in front of it, if there is one.
+fn follows(last: Option<[i64; 4]>, next: [i64; 4], k: usize) -> bool
     requires { k ≤ 4 }
-    ensures { result ≡ rises (last_of i k last) (take k next) }
+    ensures { result ≡ rises (last_of k last) (take k next) }
 {
-    if i == 0 {
-        return true;
-    }
-    let o = cells::order::in_order(&last[..k], &next[..k]);
-    match o {
-        Order::Less => true,
-        Order::Equal => false,
-        Order::Greater => false,
+    match last {
+        None => true,
+        Some(last) => in_order(&last[..k], &next[..k]).is_lt(),
     }
 }
 
-// n entry lines, then the end of the text; line numbers count from 2.
-fn read_body(text: &[u8], at: usize, k: usize, n: usize) -> Saved
-    requires { ((1 ≤ k) × (k ≤ 4)) × ((n ≤ 4096) × (at ≤ length text.now)) }
-    ensures { result ≡ summed (body n k 2 none (drop at text.now)) }
+// So many entry lines, then the end of the text; line numbers count from 2.
+fn read_body(text: &[u8], title: Title) -> Result<Title, Broken>
+    requires { ((1 ≤ title.fields) × (title.fields ≤ 4)) × (title.entries ≤ 4096) }
+    ensures { result ≡ summed (body title.entries title.fields 2 none text.now) }
 {
-    let mut last = [0i64; 4];
-    let mut next = at;
-    let mut i: usize = 0;
-    while i < n {
-        let here = i + 2;
-        let line = read_line(text, next, k);
-        if !line.ok {
-            return Saved::Broken(here);
+    let Title {
+        fields: k,
+        entries: n,
+    } = title;
+    let mut last = None;
+    let mut rest = text;
+    for i in 0..n {
+        let here = Broken { line: i + 2 };
+        let (f, behind) = read_line(rest, k).ok_or(here)?;
+        if !follows(last, f, k) {
+            return Err(here);
         }
-        let f = line.f;
-        if !follows(i, last, f, k) {
-            return Saved::Broken(here);
-        }
-        last = f;
-        next = line.next;
-        i += 1;
+        last = Some(f);
+        rest = behind;
     }
-    if next < text.len() {
-        return Saved::Broken(i + 2);
+    if !rest.is_empty() {
+        return Err(Broken { line: n + 2 });
     }
-    Saved::Book(k, i)
+    Ok(title)
 }
 
 // The verdict on a text, in one pass.
-pub fn take_apart(text: &[u8]) -> Saved
+pub fn take_apart(text: &[u8]) -> Result<Title, Broken>
     ensures { result ≡ summed (parse text.now) }
 {
-    let t = read_title(text);
-    if !t.ok {
-        return Saved::Broken(1);
-    }
-    read_body(text, t.next, t.fields, t.entries)
+    let (title, body) = read_title(text).ok_or(Broken { line: 1 })?;
+    read_body(body, title)
 }

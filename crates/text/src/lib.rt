@@ -8,17 +8,10 @@ mod book; // book.rt: reading a whole text
 
 pub use book::{first_entry, take_apart};
 pub use line::read_entry;
+pub use title::Title;
 
-// A text is broken at a line, or it is a book of so many fields and entries.
+// Where a text stops being a saved book: the line, counted from 1.
 #[derive(Clone, Copy)]
-pub enum Saved {
-    Broken(usize),
-    Book(usize, usize),
-}
-
-// An entry that was read, and the place behind its line.
-#[derive(Clone, Copy)]
-pub struct Read {
-    pub entry: model::Entry,
-    pub next: usize,
+pub struct Broken {
+    pub line: usize,
 }

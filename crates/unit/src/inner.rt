@@ -6,24 +6,21 @@ use crate::face::{Limit, Limits};
 use model::Bound;
 
 // The bound that a kind and two ends stand for.
-pub fn bound(limit: Limit) -> Bound
-    ensures { result ≡ face.bound limit }
-{
-    if limit.kind == 0 {
-        return Bound::Free;
+impl From<Limit> for Bound {
+    ghost from_gives = { λ limit bound. bound ≡ face.bound limit };
+
+    fn from(limit: Limit) -> Bound {
+        match limit.kind {
+            0 => Bound::Free,
+            1 => Bound::AtLeast(limit.low),
+            2 => Bound::AtMost(limit.high),
+            _ => Bound::Between(limit.low, limit.high),
+        }
     }
-    if limit.kind == 1 {
-        return Bound::AtLeast(limit.low);
-    }
-    if limit.kind == 2 {
-        return Bound::AtMost(limit.high);
-    }
-    Bound::Between(limit.low, limit.high)
 }
 
 pub fn bounds(limits: Limits) -> [Bound; 4]
     ensures { result ≡ face.bounds limits.of }
 {
-    let of = limits.of;
-    [bound(of[0]), bound(of[1]), bound(of[2]), bound(of[3])]
+    limits.of.map(Bound::from)
 }

@@ -9,7 +9,6 @@ ghost use Rattle.unit.specs.Face.{told, bounds};
 
 use crate::face::{Limits, Steps, Told};
 use model::{Entry, Head};
-use reply::gate::Gate;
 
 pub mod face;
 pub mod inner;
@@ -20,10 +19,9 @@ pub mod told;
 pub extern "C" fn book_judge(head: Head, keys: &[i64], links: &[usize]) -> usize
     ensures { result ≡ judged head keys.now links.now }
 {
-    let g = reply::gate::pool(head, keys, links, head.c);
-    match g {
-        Gate::Shut(why) => told::number_of(why),
-        Gate::Open => 0,
+    match reply::gate::pool(head, keys, links, head.c) {
+        Ok(()) => 0,
+        Err(why) => usize::from(why),
     }
 }
 
@@ -34,7 +32,7 @@ pub extern "C" fn book_start(k: usize, c: usize, keys: &mut [i64], links: &mut [
     ensures keys { keys.new ≡ (calls.start k c keys.old links.old).keys }
     ensures links { links.new ≡ (calls.start k c keys.old links.old).links }
 {
-    told::told(book::start(k, c, keys, links))
+    Told::from(book::start(k, c, keys, links))
 }
 
 // The slot of an entry, and how many entries the walk to it met.
@@ -42,7 +40,7 @@ pub extern "C" fn book_start(k: usize, c: usize, keys: &mut [i64], links: &mut [
 pub extern "C" fn book_look_up(head: Head, keys: &[i64], links: &[usize], entry: Entry) -> Told
     ensures { result ≡ told (calls.look_up head keys.now links.now entry).answer }
 {
-    told::told(book::look_up(head, keys, links, entry))
+    Told::from(book::look_up(head, keys, links, entry))
 }
 
 // How many entries a box holds.
@@ -50,7 +48,7 @@ pub extern "C" fn book_look_up(head: Head, keys: &[i64], links: &[usize], entry:
 pub extern "C" fn book_count(head: Head, keys: &[i64], links: &[usize], limits: Limits) -> Told
     ensures { result ≡ told (calls.count head keys.now links.now (bounds limits.of)).answer }
 {
-    told::told(book::count(head, keys, links, inner::bounds(limits)))
+    Told::from(book::count(head, keys, links, inner::bounds(limits)))
 }
 
 // The entries of a box in listing order, K numbers each; room behind them is untouched.
@@ -65,7 +63,7 @@ pub extern "C" fn book_list(
     ensures answer { result ≡ told (calls.list head keys.now links.now (bounds limits.of) room.old).answer }
     ensures room { room.new ≡ (calls.list head keys.now links.now (bounds limits.of) room.old).room }
 {
-    told::told(book::list(head, keys, links, inner::bounds(limits), room))
+    Told::from(book::list(head, keys, links, inner::bounds(limits), room))
 }
 
 // The entry nearest a note, by steps; at a tie the first in listing order.
@@ -79,8 +77,7 @@ pub extern "C" fn book_nearest(
 ) -> Told
     ensures { result ≡ told (calls.near head keys.now links.now query steps.of).answer }
 {
-    let of = steps.of;
-    told::told(book::nearest(head, keys, links, query, of))
+    Told::from(book::nearest(head, keys, links, query, steps.of))
 }
 
 // A new entry in the first free slot.
@@ -97,7 +94,7 @@ pub extern "C" fn book_add(
     ensures links { links.new ≡ (calls.add head keys.old links.old scratch.old entry).links }
     ensures scratch { scratch.new ≡ (calls.add head keys.old links.old scratch.old entry).scratch }
 {
-    told::told(book::add(head, keys, links, scratch, entry))
+    Told::from(book::add(head, keys, links, scratch, entry))
 }
 
 // One entry out.
@@ -114,7 +111,7 @@ pub extern "C" fn book_strike(
     ensures links { links.new ≡ (calls.strike_out head keys.old links.old scratch.old entry).links }
     ensures scratch { scratch.new ≡ (calls.strike_out head keys.old links.old scratch.old entry).scratch }
 {
-    told::told(book::strike(head, keys, links, scratch, entry))
+    Told::from(book::strike(head, keys, links, scratch, entry))
 }
 
 // The text of the book; room behind it is untouched.
@@ -123,7 +120,7 @@ pub extern "C" fn book_save(head: Head, keys: &[i64], links: &[usize], room: &mu
     ensures answer { result ≡ told (calls.save head keys.now links.now room.old).answer }
     ensures page { room.new ≡ (calls.save head keys.now links.now room.old).page }
 {
-    told::told(book::save(head, keys, links, room))
+    Told::from(book::save(head, keys, links, room))
 }
 
 // A saved text, whole or not at all; only what is not yet there is added.
@@ -140,7 +137,7 @@ pub extern "C" fn book_take_in(
     ensures links { links.new ≡ (calls.take_in head keys.old links.old scratch.old text.now).links }
     ensures scratch { scratch.new ≡ (calls.take_in head keys.old links.old scratch.old text.now).scratch }
 {
-    told::told(book::take_in(head, keys, links, scratch, text))
+    Told::from(book::take_in(head, keys, links, scratch, text))
 }
 
 // A tray of adds and strikes in order, whole or not at all.
@@ -157,5 +154,5 @@ pub extern "C" fn book_tray(
     ensures links { links.new ≡ (trays.tray head keys.old links.old scratch.old items.now).links }
     ensures scratch { scratch.new ≡ (trays.tray head keys.old links.old scratch.old items.now).scratch }
 {
-    told::told(book::tray(head, keys, links, scratch, items))
+    Told::from(book::tray(head, keys, links, scratch, items))
 }

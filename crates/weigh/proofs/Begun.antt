@@ -1,45 +1,48 @@
 -- The items of a tray read from its numbers: the first number and the entry of each, and refusal 12's test of all of them.
-use mathlib.Core.Path.{◌≡◌, refl, sym, ap, ◌∙◌}
-use mathlib.Core.Bool.{Bool, true, false, not, ◌&&◌, ◌||◌}
-use mathlib.Core.List.{List}
-use Prim.Native.Nat.{ℕ, suc, ◌+◌, ◌-◌, ◌*◌, ◌/◌, ◌%◌, ◌≤◌, ◌<◌, Ordering}
+use mathlib.Core.Path.{◌≡◌, refl, sym, ap, ap₂, ◌∙◌}
+use mathlib.Core.Bool.{Bool, true, false, ◌&&◌, ◌||◌}
+use mathlib.Core.List.{List, [], ◌∷◌}
+use Prim.Native.Nat.{ℕ, suc, ◌+◌, ◌-◌, ◌*◌, ◌/◌, ◌%◌, ◌≤◌, ◌<◌}
 use native.Mathlib.Omega.{arith}
 use native.Mathlib.Nat.{suc-mul, mul-le-mul_right, div-mul-le_self}
 use native.Mathlib.Numerals.{add-one}
-use lib.Dec.{compare_is_eq, leb, eqb}
-use lib.ListN.{length, get_or, take, drop, length-drop}
-use lib.Seq.{drop-cons, drop-drop, get_or-drop, get_or-take, length-take-le, ext_get_or}
-use lib.IntN.{ℤ, pos}
+use lib.Dec.{leb, eqb}
+use lib.ListN.{length, take, drop}
+use lib.Seq.{take-length, drop-drop}
+use lib.IntN.{ℤ}
 use borrow.Author.Tests.{eq-eqb, ne_eqb, le-leb, lt-leb}
-use Rattle.model.specs.Number.{order}
+use Rattle.std.proofs.lemmas.List.{drop-take}
 use Rattle.model.specs.Tray.{begins, begun, trayed, work_at}
 use Rattle.model.proofs.Items.{entry_of_work}
-use Rattle.model.proofs.Orders.{order-eq, order-refl}
 use Rattle.model.proofs.Trees.{pair}
-use Rattle.weigh.specs.Items.{entry_at, work_of}
-
--- two numbers told apart by the machine's test
-pub told_same : (x y x' y' : ℤ) → x' ≡ x → y' ≡ y → (r : Bool) → (r ≡ true → x' ≡ y' → ⊥) × (r ≡ false → x' ≡ y') → not r ≡ compare_is_eq (order x y)
-told_same x y x' y' p q true f = go (order x y) refl
-  where
-    go : (o : Ordering) → order x y ≡ o → false ≡ compare_is_eq (order x y)
-    go Ordering.lt e = rw e refl
-    go Ordering.eq e = absurd (f.0 refl (p ∙ order-eq x y e ∙ sym q))
-    go Ordering.gt e = rw e refl
-told_same x y x' y' p q false f = sym (ap compare_is_eq (ap (λ z. order z y) (sym p ∙ f.1 refl ∙ q) ∙ order-refl y))
+use Rattle.weigh.specs.Items.{entry_at, item_of, work_of}
 
 and_no : (a b : Bool) → b ≡ false → (a && b) ≡ false
 and_no true b e = e
 and_no false b e = refl
 
-pub first-is : (xs : List ℤ) (at n : ℕ) → at < length xs → compare_is_eq (order (get_or xs at (pos 0)) (pos n)) ≡ begins n (drop at xs)
-first-is xs at n l = sym (ap (begins n) (drop-cons xs at (pos 0) l))
+-- all behind the first number
+pub rest_of : (xs : List ℤ) → take (length xs - 1) (drop 1 xs) ≡ drop 1 xs
+rest_of [] = refl
+rest_of (x ∷ xs) = ap (λ n. take n xs) (let e : suc (length xs) - 1 ≡ length xs = omega arith in e) ∙ take-length xs
 
-pub either_first : (a b x : Bool) → x ≡ a → x ≡ true → true ≡ (a || b)
-either_first a b x e t = rw (sym e ∙ t) refl
+-- an item of its own, and as the front of what is left of the tray
+pub begins_item : (n K i : ℕ) (xs : List ℤ) → begins n (item_of K xs i) ≡ begins n (drop (i * (K + 1)) xs)
+begins_item n K i xs = ap (λ m. begins n (take m (drop (i * (K + 1)) xs))) (add-one K) ∙ front (drop (i * (K + 1)) xs)
+  where
+    front : (ys : List ℤ) → begins n (take (suc K) ys) ≡ begins n ys
+    front [] = refl
+    front (y ∷ ys) = refl
 
-pub either_second : (a b x y : Bool) → x ≡ a → x ≡ false → y ≡ b → y ≡ (a || b)
-either_second a b x y e t f = rw (sym e ∙ t) f
+-- the entry behind an item's first number
+pub entry_item : (K i : ℕ) (xs : List ℤ) → drop 1 (item_of K xs i) ≡ entry_at K xs i
+entry_item K i xs = ap (λ m. drop 1 (take m (drop (i * (K + 1)) xs))) (let e : K + 1 ≡ 1 + K = omega arith in e) ∙ drop-take 1 K (drop (i * (K + 1)) xs) ∙ ap (take K) (drop-drop 1 (i * (K + 1)) xs)
+
+pub alike_entries : (K i j : ℕ) (xs a b : List ℤ) → a ≡ item_of K xs i → b ≡ item_of K xs j → drop 1 a ≡ drop 1 b → entry_at K xs j ≡ entry_at K xs i
+alike_entries K i j xs a b p q e = sym (entry_item K j xs) ∙ ap (drop 1) (sym q) ∙ sym e ∙ ap (drop 1) p ∙ entry_item K i xs
+
+pub unlike_entries : (K i j : ℕ) (xs a b : List ℤ) → a ≡ item_of K xs i → b ≡ item_of K xs j → ¬ (drop 1 a ≡ drop 1 b) → ¬ (entry_at K xs j ≡ entry_at K xs i)
+unlike_entries K i j xs a b p q n e = n (ap (drop 1) p ∙ entry_item K i xs ∙ sym e ∙ sym (entry_item K j xs) ∙ ap (drop 1) (sym q))
 
 -- a whole item lies within the numbers; where the next begins
 pub item-fits : (K n i : ℕ) → i < n / (K + 1) → i * (K + 1) + (K + 1) ≤ n
@@ -65,27 +68,6 @@ entry-is K xs i = go (begins 1 (drop (i * (K + 1)) xs)) refl (ap (take K) (drop-
     go : (o : Bool) → begins 1 (drop (i * (K + 1)) xs) ≡ o → take K (drop 1 (drop (i * (K + 1)) xs)) ≡ entry_at K xs i → entry_of_work (work_of K xs i) ≡ entry_at K xs i
     go true q e = rw (q, work_at) e
     go false q e = rw (q, work_at) e
-
--- ---- two entries, field by field
-
-abbrev pub Alike : List ℤ → ℕ → ℕ → ℕ → Type 0
-Alike xs a b n = (f : ℕ) → f < n → get_or xs (a + f) (pos 0) ≡ get_or xs (b + f) (pos 0)
-
-module _ (xs : List ℤ) (K a b : ℕ) where
-  part_field : (at f : ℕ) → f < K → get_or (take K (drop at xs)) f (pos 0) ≡ get_or xs (at + f) (pos 0)
-  part_field at f l = get_or-take K (drop at xs) f (pos 0) l ∙ get_or-drop at xs f (pos 0)
-
-  pub fields-same : a + K ≤ length xs → b + K ≤ length xs → Alike xs a b K → take K (drop b xs) ≡ take K (drop a xs)
-  fields-same la lb s = ext_get_or (pos 0) (take K (drop b xs)) (take K (drop a xs)) (long b lb ∙ sym (long a la)) (λ f l. same f (let e = long b lb in omega arith))
-    where
-      long : (at : ℕ) → at + K ≤ length xs → length (take K (drop at xs)) ≡ K
-      long at l = length-take-le K (drop at xs) (simp length-drop (omega arith))
-
-      same : (f : ℕ) → f < K → get_or (take K (drop b xs)) f (pos 0) ≡ get_or (take K (drop a xs)) f (pos 0)
-      same f l = part_field b f l ∙ sym (s f l) ∙ sym (part_field a f l)
-
-  pub fields-other : (f : ℕ) → f < K → ¬ (get_or xs (a + f) (pos 0) ≡ get_or xs (b + f) (pos 0)) → ¬ (take K (drop b xs) ≡ take K (drop a xs))
-  fields-other f l n e = n (sym (part_field a f l) ∙ ap (λ y. get_or y f (pos 0)) (sym e) ∙ part_field b f l)
 
 -- ---- refusal 12's test
 
@@ -114,11 +96,11 @@ module _ (K : ℕ) (xs : List ℤ) where
   begun_first = let m : many - 0 ≡ many = omega arith in let z : 0 * (K + 1) ≡ 0 = omega arith in (omega arith, rw (m, z) refl)
 
   module _ (i : ℕ) (v : Begun i) where
-    module _ (l : i < many) (r : Bool) (e : r ≡ (begins 1 (drop (i * (K + 1)) xs) || begins 2 (drop (i * (K + 1)) xs))) where
+    module _ (l : i < many) (r : Bool) (e : r ≡ (begins 1 (item_of K xs i) || begins 2 (item_of K xs i))) where
       opens : begun K many xs ≡ (r && begun K (many - (i + 1)) (drop ((i + 1) * (K + 1)) xs))
       opens =
           let m : many - i ≡ suc (many - (i + 1)) = omega arith in
-          sym v.1 ∙ ap (λ j. begun K j (drop (i * (K + 1)) xs)) m ∙ ap (λ (y : List ℤ). (begins 1 (drop (i * (K + 1)) xs) || begins 2 (drop (i * (K + 1)) xs)) && begun K (many - (i + 1)) y) (next-item K xs i) ∙ ap (λ y. y && begun K (many - (i + 1)) (drop ((i + 1) * (K + 1)) xs)) (sym e)
+          sym v.1 ∙ ap (λ j. begun K j (drop (i * (K + 1)) xs)) m ∙ ap (λ (y : List ℤ). (begins 1 (drop (i * (K + 1)) xs) || begins 2 (drop (i * (K + 1)) xs)) && begun K (many - (i + 1)) y) (next-item K xs i) ∙ ap (λ y. y && begun K (many - (i + 1)) (drop ((i + 1) * (K + 1)) xs)) (sym (e ∙ ap₂ ◌||◌ (begins_item 1 K i xs) (begins_item 2 K i xs)))
 
       pub begun-on : r ≡ true → Begun (i + 1)
       begun-on t = (omega arith, sym (opens ∙ ap (λ y. y && begun K (many - (i + 1)) (drop ((i + 1) * (K + 1)) xs)) t))

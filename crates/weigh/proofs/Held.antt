@@ -21,6 +21,7 @@ use Rattle.cells.specs.Slots.{Room}
 use Rattle.cells.proofs.Reps.{lies-rep}
 use Rattle.ask.specs.Standing.{Stands, Standing}
 use Rattle.sound.specs.Parts.{shape_of}
+use Rattle.model.specs.declared.Shape.{Shape}
 use Rattle.weigh.specs.Sounds.{Sound}
 
 -- the tree of a sound pool lies at its root, and has no more entries than there are slots
@@ -55,6 +56,14 @@ module _ (h : Head) (ks : List ℤ) (ls : List ℕ) (p : Sound h ks ls) where
 
   pub its-standing : Standing h.k ks ls h.root 0 h.c
   its-standing = record { tree = (book_of h ks ls).tree; stands = its-stands; few = rw (items-length (book_of h ks ls).tree, its.count) (few-of h ks ls p.good) }
+
+  -- the same of a shape that the head gives
+  module _ (S : Shape) (e : S ≡ record { k = h.k; c = h.c }) where
+    pub given-room : Room S (length ks) (length ls)
+    given-room = rw e p.room
+
+    pub given-standing : Standing S.k ks ls h.root 0 S.c
+    given-standing = rw e its-standing
 
 -- tables as long as they were have the room that they had
 pub room-kept : (h : Head) (nk nl nk' nl' : ℕ) → Room (shape_of h) nk nl → nk' ≡ nk → nl' ≡ nl → Room (shape_of h) nk' nl'

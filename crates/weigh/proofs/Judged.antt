@@ -3,6 +3,8 @@ use mathlib.Core.Path.{◌≡◌, refl, sym, ap, ◌∙◌}
 use mathlib.Core.Bool.{Bool, true, false}
 use mathlib.Core.List.{List, [], ◌∷◌}
 use mathlib.Core.Option.{Option, none, some}
+use Rattle.std.specs.Prelude.{Result, Ok, Err}
+use Rattle.std.specs.declared.option.Option.TheVariants.{Some, None}
 use Prim.Native.Nat.{ℕ, zero, suc, ◌+◌, ◌-◌, ◌*◌, ◌/◌, ◌≤◌, ◌<◌}
 use native.Mathlib.Omega.{arith}
 use native.Mathlib.Nat.{suc-mul}
@@ -10,7 +12,6 @@ use native.Mathlib.Numerals.{add-one}
 use lib.ListN.{length, drop}
 use lib.Seq.{drop-drop}
 use lib.IntN.{ℤ}
-use borrow.Author.Tests.{eq-eqb, ne_eqb}
 use Rattle.model.specs.Answer.{gate}
 use Rattle.model.specs.Ask.{has}
 use Rattle.model.specs.Book.{Book}
@@ -22,44 +23,22 @@ use Rattle.model.specs.Tray.{Work, adding, striking, begins, work_at, works, wor
 use Rattle.model.specs.Tree.{size}
 use Rattle.model.specs.declared.Head.{Head}
 use Rattle.model.specs.declared.Refusal.{Refusal}
-use Rattle.model.specs.declared.Refusal.TheVariants.{Present, Missing, Full}
 use Rattle.model.proofs.Backs.{valid-size}
 use Rattle.model.proofs.Books.{Valid}
 use Rattle.model.proofs.Items.{Wide, entry_of_work, worked-good}
 use Rattle.model.proofs.Passes.{Fit}
-use Rattle.weigh.specs.Items.{entry_at, there_after, is_there_by, work_of}
+use Rattle.weigh.specs.Items.{entry_at, item_of, there_after, is_there_by, work_of}
 use Rattle.weigh.specs.Judging.{first_of, rows_of, verdict, verdict_on}
 use Rattle.weigh.specs.Sounds.{Sound}
-use Rattle.weigh.specs.declared.judging.First.TheVariants.{Nothing, Item}
-use Rattle.weigh.specs.declared.judging.Verdict.{Verdict}
-use Rattle.weigh.specs.declared.judging.Verdict.TheVariants.{Right, Wrong}
-use Rattle.weigh.proofs.Begun.{entry-is, item-fits}
+use Rattle.weigh.proofs.Begun.{begins_item, entry-is, item-fits}
 use Rattle.weigh.proofs.Held.{its}
 use Rattle.weigh.proofs.Lately.{adds, adds-is, entry-long, has-worked, size-added, size-struck}
 
--- ---- the tests of a verdict
-
-module _ (a t : Bool) (n C : ℕ) where
-  pub judge-present : a ≡ true → t ≡ true → Wrong Present ≡ verdict_on a t n C
-  judge-present p q = rw (p, q) refl
-
-  pub judge-full : a ≡ true → t ≡ false → n ≡ C → Wrong Full ≡ verdict_on a t n C
-  judge-full p q e = rw (p, q, eq-eqb n C e) refl
-
-  pub judge-adds : a ≡ true → t ≡ false → ¬ (n ≡ C) → Right ≡ verdict_on a t n C
-  judge-adds p q e = rw (p, q, ne_eqb n C e) refl
-
-  pub judge-strikes : a ≡ false → t ≡ true → Right ≡ verdict_on a t n C
-  judge-strikes p q = rw (p, q) refl
-
-  pub judge-missing : a ≡ false → t ≡ false → Wrong Missing ≡ verdict_on a t n C
-  judge-missing p q = rw (p, q) refl
-
-right-none : (o : Option Refusal) → Right ≡ verdict o → o ≡ none
+right-none : (o : Option Refusal) → Ok tt ≡ verdict o → o ≡ none
 right-none none e = refl
 right-none (some r) e = let z : ◌≡◌ {A = ℕ} 0 1 = cc in absurd (omega arith)
 
-wrong-some : (o : Option Refusal) (r : Refusal) → Wrong r ≡ verdict o → o ≡ some r
+wrong-some : (o : Option Refusal) (r : Refusal) → Err r ≡ verdict o → o ≡ some r
 wrong-some none r e = let z : ◌≡◌ {A = ℕ} 0 1 = cc in absurd (omega arith)
 wrong-some (some q) r e = let m : r ≡ q = cc in ap some (sym m)
 
@@ -137,13 +116,13 @@ module _ (h : Head) (ks : List ℤ) (ls : List ℕ) (p : Sound h ks ls) (xs : Li
   judges-first = record { book = b; low = omega arith; valid = (its h ks ls p).valid; count = (its h ks ls p).count; there = λ e. refl; goal = refl }
 
   module _ (n i : ℕ) (v : Judging h b xs n i) where
-    pub judges-end : length xs / (K + 1) ≤ i → Nothing ≡ first_of (first_wrong_item C 1 (works K xs) b)
+    pub judges-end : length xs / (K + 1) ≤ i → None ≡ first_of (first_wrong_item C 1 (works K xs) b)
     judges-end l = ap first_of (ap (λ ws. first_wrong_item C (i + 1) ws v.book) (sym (works-end K xs i l)) ∙ v.goal)
 
     pub judges-low : n ≤ 4096
     judges-low = let a : size v.book.tree + length v.book.chain ≡ C = valid-size K C v.book v.valid in let e = v.count in let c = p.room.c_high in omega arith
 
-    module _ (l : i < length xs / (K + 1)) (t : Bool) (ts : t ≡ is_there_by K xs (entry_at K xs i) (has (entry_at K xs i) (listing b.tree)) i) (a : Bool) (an : a ≡ begins 1 (drop (i * (K + 1)) xs)) (z : Verdict) (zs : z ≡ verdict_on a t n C) where
+    module _ (l : i < length xs / (K + 1)) (t : Bool) (ts : t ≡ is_there_by K xs (entry_at K xs i) (has (entry_at K xs i) (listing b.tree)) i) (a : Bool) (an : a ≡ begins 1 (item_of K xs i)) (z : Result (Unit {0}) Refusal) (zs : z ≡ verdict_on a t n C) where
       abbrev w : Work
       w = work_of K xs i
 
@@ -151,17 +130,17 @@ module _ (h : Head) (ks : List ℤ) (ls : List ℕ) (p : Sound h ks ls) (xs : Li
       entry-there = ts ∙ sym (v.there (entry_at K xs i)) ∙ ap (λ e. has e (listing v.book.tree)) (sym (entry-is K xs i))
 
       adds_then : a ≡ adds w
-      adds_then = an ∙ sym (adds-is K (drop (i * (K + 1)) xs))
+      adds_then = an ∙ begins_item 1 K i xs ∙ sym (adds-is K (drop (i * (K + 1)) xs))
 
       judged : z ≡ verdict (wrong_with C w v.book)
       judged = zs ∙ ap (λ y. verdict_on y t n C) adds_then ∙ ap (λ y. verdict_on (adds w) y n C) entry-there ∙ ap (λ y. verdict_on (adds w) (has (entry_of_work w) (listing v.book.tree)) y C) (sym v.count) ∙ ap verdict (wrong-is C w v.book)
 
-      pub judges-wrong : (r : Refusal) → z ≡ Wrong r → Item (i + 1) r ≡ first_of (first_wrong_item C 1 (works K xs) b)
+      pub judges-wrong : (r : Refusal) → z ≡ Err r → Some (i + 1, r) ≡ first_of (first_wrong_item C 1 (works K xs) b)
       judges-wrong r q =
           let e : wrong_with C w v.book ≡ some r = wrong-some (wrong_with C w v.book) r (sym q ∙ judged) in
           ap first_of (sym (first-wrong C (i + 1) w (drop (i + 1) (works K xs)) v.book r e) ∙ ap (λ ws. first_wrong_item C (i + 1) ws v.book) (sym (works-on K xs i l)) ∙ v.goal)
 
-      module _ (q : z ≡ Right) where
+      module _ (q : z ≡ Ok tt) where
         right : wrong_with C w v.book ≡ none
         right = right-none (wrong_with C w v.book) (sym q ∙ judged)
 

@@ -31,8 +31,8 @@ use Rattle.model.proofs.Orders.{cmp-eq, cmp-refl}
 use Rattle.model.proofs.Passes.{Fit}
 use Rattle.model.proofs.Ranks.{Unlike}
 use Rattle.model.proofs.Strikes.{strike-gone}
-use Rattle.weigh.specs.Items.{entry_at, there_after, is_there_by, work_of}
-use Rattle.weigh.proofs.Begun.{entry-is}
+use Rattle.weigh.specs.Items.{entry_at, item_of, there_after, is_there_by, work_of}
+use Rattle.weigh.proofs.Begun.{begins_item, entry-is, entry_item}
 use Rattle.weigh.proofs.Inward.{back_in}
 
 or-none : (a : Bool) → (a || false) ≡ false → a ≡ false
@@ -142,17 +142,17 @@ abbrev pub Silent : ℕ → List ℤ → Entry → Bool → ℕ → ℕ → Type
 Silent K xs e z i j = (j ≤ i) × (is_there_by K xs e z i ≡ is_there_by K xs e z j)
 
 -- where no item told, the pool does
-pub pool-tells : (K : ℕ) (xs : List ℤ) (held : List Entry) (i j : ℕ) → i * (K + 1) + (K + 1) ≤ length xs → Silent K xs (entry_at K xs i) (has (entry_at K xs i) held) i j → j ≡ 0 → (x : Four) → x ≡ outward (entry_at K xs i) → (r : Bool) → r ≡ has (inward K x) held → r ≡ is_there_by K xs (entry_at K xs i) (has (entry_at K xs i) held) i
+pub pool-tells : (K : ℕ) (xs : List ℤ) (held : List Entry) (i j : ℕ) → i * (K + 1) + (K + 1) ≤ length xs → Silent K xs (entry_at K xs i) (has (entry_at K xs i) held) i j → j ≡ 0 → (x : Four) → x ≡ outward (drop 1 (item_of K xs i)) → (r : Bool) → r ≡ has (inward K x) held → r ≡ is_there_by K xs (entry_at K xs i) (has (entry_at K xs i) held) i
 pool-tells K xs held i j f s q x o r h =
     let e : Entry = entry_at K xs i in
-    h ∙ ap (λ y. has y held) (back_in K e x (entry-long K xs i f) o) ∙ sym (s.1 ∙ ap (is_there_by K xs e (has e held)) q)
+    h ∙ ap (λ y. has y held) (back_in K e x (entry-long K xs i f) (o ∙ ap outward (entry_item K i xs))) ∙ sym (s.1 ∙ ap (is_there_by K xs e (has e held)) q)
 
 module _ (K : ℕ) (xs : List ℤ) (e : Entry) (z : Bool) (i j : ℕ) (s : Silent K xs e z i j) (l : 0 < j) where
   back_one : is_there_by K xs e z i ≡ there_after e (work_of K xs (j - 1)) (is_there_by K xs e z (j - 1))
   back_one = s.1 ∙ ap (is_there_by K xs e z) (let m : j ≡ suc (j - 1) = omega arith in m)
 
-  pub tells : entry_at K xs (j - 1) ≡ e → (r : Bool) → r ≡ begins 1 (drop ((j - 1) * (K + 1)) xs) → r ≡ is_there_by K xs e z i
-  tells q r f = f ∙ sym (adds-is K (drop ((j - 1) * (K + 1)) xs)) ∙ sym (after_same e (work_of K xs (j - 1)) (is_there_by K xs e z (j - 1)) (entry-is K xs (j - 1) ∙ q)) ∙ sym back_one
+  pub tells : entry_at K xs (j - 1) ≡ e → (r : Bool) → r ≡ begins 1 (item_of K xs (j - 1)) → r ≡ is_there_by K xs e z i
+  tells q r f = f ∙ begins_item 1 K (j - 1) xs ∙ sym (adds-is K (drop ((j - 1) * (K + 1)) xs)) ∙ sym (after_same e (work_of K xs (j - 1)) (is_there_by K xs e z (j - 1)) (entry-is K xs (j - 1) ∙ q)) ∙ sym back_one
 
   pub still-silent : ¬ (entry_at K xs (j - 1) ≡ e) → Silent K xs e z i (j - 1)
   still-silent n = (omega arith, back_one ∙ after-other e (work_of K xs (j - 1)) (is_there_by K xs e z (j - 1)) (λ q. n (sym (entry-is K xs (j - 1)) ∙ q)))

@@ -15,7 +15,8 @@ use Rattle.model.specs.Text.{cut_line, entry_lines, parse, ranged, title}
 use Rattle.model.proofs.Lists.{Every, OnceEach, every-at}
 use Rattle.model.proofs.Texts.{Taken, only-saved, rise-once, taken-cut}
 use Rattle.text.specs.Told.{ReadBack, Standing, Stands}
-use Rattle.text.specs.declared.Read.{Read}
+use denote.Bor.{Bor}
+use Rattle.model.specs.declared.Entry.{Entry as Four}
 use Rattle.weigh.specs.Saved.{Saves}
 use Rattle.weigh.proofs.Inward.{back_in}
 
@@ -24,9 +25,9 @@ once-from [] o i l = absurd (omega arith)
 once-from (e ∷ es) (o, os) zero l = o
 once-from (e ∷ es) (o, os) (suc i) l = once-from es os i (omega arith)
 
--- before line i: its place, and what stands there
-abbrev pub Reading : List ℕ → ℕ → ℕ → ℕ → Type 0
-Reading text n at i = (i ≤ n) × ((at ≤ length text) × (drop at text ≡ entry_lines (drop i (entries_in (parse text)))))
+-- before line i: what is left of the text
+abbrev pub Reading : List ℕ → ℕ → List ℕ → ℕ → Type 0
+Reading text n left i = (i ≤ n) × (left ≡ entry_lines (drop i (entries_in (parse text))))
 
 module _ (text : List ℕ) (K n : ℕ) (s : Saves text K n) where
   abbrev es : List Entry
@@ -44,13 +45,13 @@ module _ (text : List ℕ) (K n : ℕ) (s : Saves text K n) where
   pub text-fields : (1 ≤ K) × (K ≤ 4)
   text-fields = (taken.low, taken.high)
 
-  pub reads_first : (at : ℕ) → ((c : List ℕ × List ℕ) → cut_line text ≡ some c → drop at text ≡ c.1) × (at ≤ length text) → Reading text n at 0
-  reads_first at f = (omega arith, (f.1, f.0 (title K (length es), entry_lines es) (taken-cut text K es taken)))
+  pub reads_first : (left : List ℕ) → ((c : List ℕ × List ℕ) → cut_line text ≡ some c → left ≡ c.1) → Reading text n left 0
+  reads_first left f = (omega arith, f (title K (length es), entry_lines es) (taken-cut text K es taken))
 
   pub lines-gone : (i : ℕ) → n ≤ i → drop i es ≡ []
   lines-gone i l = drop_of_length-le es (let m = s.many in let r : length es ≤ i = omega arith in r)
 
-  module _ (at i : ℕ) (v : Reading text n at i) (l : i < n) where
+  module _ (left : List ℕ) (i : ℕ) (v : Reading text n left i) (l : i < n) where
     within : i < length es
     within = let m = s.many in omega arith
 
@@ -63,15 +64,15 @@ module _ (text : List ℕ) (K n : ℕ) (s : Saves text K n) where
     pub once-at : Every (λ y. ¬ (get_or es i [] ≡ y)) (drop (i + 1) es)
     once-at = subst (λ j. Every (λ y. ¬ (get_or es i [] ≡ y)) (drop j es)) (sym (add-one i)) (once-from es (rise-once none es taken.writable.rising) i within)
 
-    line-here : Stands (drop at text) K (get_or es i []) (entry_lines (drop (i + 1) es))
-    line-here = record { printed = v.1.1 ∙ ap entry_lines lines-on; sized = sized-at; in_range = every-at (λ e. ranged e ≡ true) [] es taken.writable.ranged i within }
+    line-here : Stands left K (get_or es i []) (entry_lines (drop (i + 1) es))
+    line-here = record { printed = v.1 ∙ ap entry_lines lines-on; sized = sized-at; in_range = every-at (λ e. ranged e ≡ true) [] es taken.writable.ranged i within }
 
-    pub line-ready : ((1 ≤ K) × (K ≤ 4)) × ((at ≤ length text) × Standing (drop at text) K)
-    line-ready = (text-fields, (v.1.0, record { entry = get_or es i []; rest = entry_lines (drop (i + 1) es); stands = line-here }))
+    pub line-ready : ((1 ≤ K) × (K ≤ 4)) × Standing left K
+    line-ready = (text-fields, record { entry = get_or es i []; rest = entry_lines (drop (i + 1) es); stands = line-here })
 
-    module _ (r : Read) (f : (e : Entry) (rest : List ℕ) → Stands (drop at text) K e rest → ReadBack text r e rest) where
-      pub read-in : inward K r.entry ≡ get_or es i []
-      read-in = back_in K (get_or es i []) r.entry sized-at (f (get_or es i []) (entry_lines (drop (i + 1) es)) line-here).entry
+    module _ (r : Four × Bor (List ℕ)) (f : (e : Entry) (rest : List ℕ) → Stands left K e rest → ReadBack r e rest) where
+      pub read-in : inward K r.0 ≡ get_or es i []
+      read-in = back_in K (get_or es i []) r.0 sized-at (f (get_or es i []) (entry_lines (drop (i + 1) es)) line-here).entry
 
-      pub reads_on : Reading text n r.next (i + 1)
-      reads_on = let w = f (get_or es i []) (entry_lines (drop (i + 1) es)) line-here in (omega arith, (w.within, w.next))
+      pub reads_on : Reading text n r.1.now (i + 1)
+      reads_on = (omega arith, (f (get_or es i []) (entry_lines (drop (i + 1) es)) line-here).left)

@@ -22,7 +22,7 @@ use Rattle.model.proofs.Trees.{All}
 use Rattle.cells.proofs.Reps.{rep-lies}
 use Rattle.ask.specs.Walks.{named}
 use Rattle.ask.specs.declared.walk.Walk.{Walk as End}
-use Rattle.ask.specs.declared.walk.Walk.TheVariants.{Found, Gone, Astray}
+use Rattle.ask.specs.declared.walk.Walk.TheVariants.{Found, Gone}
 use Rattle.weigh.specs.Sounds.{Sound}
 use Rattle.weigh.proofs.Held.{few-of, its, its-rep}
 
@@ -52,15 +52,12 @@ module _ (h : Head) (ks : List ℤ) (ls : List ℕ) (p : Sound h ks ls) (k : Ent
   not_there e = false-has k (listing u) (listing-all (Unlike k) u (slot_of-none h.c 0 k u (its h ks ls p).valid.ordered (valid-in_pool h.k h.c (book_of h ks ls) (its h ks ls p).valid) e))
 
   module _ (w : End) (is : w ≡ named (walk read_limit (cell_of h.k ks ls) h.c 0 k 0 h.root)) where
-    by-slot : (n : ℕ) → slot_of 0 k u ≡ n → ((s r : ℕ) → w ≡ Found s r → true ≡ has k (listing u)) × (((r : ℕ) → w ≡ Gone r → false ≡ has k (listing u)) × (w ≡ Astray → false ≡ has k (listing u)))
-    by-slot zero e = let x : w ≡ Gone (reads 0 k u) = is ∙ ap named (walks ∙ ap (λ n. walk_of n (reads 0 k u)) e) in ((λ s r q. (let z : ◌≡◌ {A = ℕ} 0 1 = cc in absurd (omega arith))), ((λ r q. sym (not_there e)), λ q. sym (not_there e)))
-    by-slot (suc n) e = let x : w ≡ Found (suc n) (reads 0 k u) = is ∙ ap named (walks ∙ ap (λ n. walk_of n (reads 0 k u)) e) in ((λ s r q. sym (there n e)), ((λ r q. (let z : ◌≡◌ {A = ℕ} 0 1 = cc in absurd (omega arith))), λ q. (let z : ◌≡◌ {A = ℕ} 0 1 = cc in absurd (omega arith))))
+    by-slot : (n : ℕ) → slot_of 0 k u ≡ n → ((s r : ℕ) → w ≡ Found s r → true ≡ has k (listing u)) × (((s r : ℕ) → w ≡ Found s r → ⊥) → false ≡ has k (listing u))
+    by-slot zero e = let x : w ≡ Gone (reads 0 k u) = is ∙ ap named (walks ∙ ap (λ n. walk_of n (reads 0 k u)) e) in ((λ s r q. (let z : ◌≡◌ {A = ℕ} 0 1 = cc in absurd (omega arith))), λ n. sym (not_there e))
+    by-slot (suc n) e = let x : w ≡ Found (suc n) (reads 0 k u) = is ∙ ap named (walks ∙ ap (λ n. walk_of n (reads 0 k u)) e) in ((λ s r q. sym (there n e)), λ f. absurd (f (suc n) (reads 0 k u) x))
 
     pub is_found : (s r : ℕ) → w ≡ Found s r → true ≡ has k (listing u)
     is_found = (by-slot (slot_of 0 k u) refl).0
 
-    pub is-gone : (r : ℕ) → w ≡ Gone r → false ≡ has k (listing u)
-    is-gone = (by-slot (slot_of 0 k u) refl).1.0
-
-    pub is-astray : w ≡ Astray → false ≡ has k (listing u)
-    is-astray = (by-slot (slot_of 0 k u) refl).1.1
+    pub not-found : ((s r : ℕ) → w ≡ Found s r → ⊥) → false ≡ has k (listing u)
+    not-found = (by-slot (slot_of 0 k u) refl).1

@@ -4,6 +4,10 @@ use Rattle.std.proofs.Math.Dec.{compare_is_eq}
 use Rattle.model.specs.Entry.{Entry, cmp}
 use Rattle.model.specs.Tray.{Work, adding, striking, work_at}
 
+-- the K+1 numbers of item i
+abbrev pub item_of : ℕ → List ℤ → ℕ → List ℤ
+item_of K xs i = take (K + 1) (drop (i * (K + 1)) xs)
+
 abbrev pub work_of : ℕ → List ℤ → ℕ → Work
 work_of K xs i = work_at K (drop (i * (K + 1)) xs)
 

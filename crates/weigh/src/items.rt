@@ -1,66 +1,48 @@
 // The items of a tray, each K+1 numbers: what the first of them says, and the entry behind it.
-ghost use Rattle.std.specs.Prelude.{◌≡◌, true, false, ◌||◌, ◌+◌, ◌*◌, ◌≤◌, pos, length, get_or, drop};
-ghost use Rattle.std.proofs.Math.Dec.{compare_is_eq};
+ghost use Rattle.std.specs.Prelude.{◌≡◌, ◌↔◌, ◌||◌, ◌+◌, ◌*◌, ◌≤◌, ◌<◌, length, drop, IsTrue};
 ghost use Rattle.model.specs.Answer.{outward};
-ghost use Rattle.model.specs.Number.{order};
 ghost use Rattle.model.specs.Tray as trays;
-ghost use Rattle.weigh.specs.Items.{entry_at};
+ghost use Rattle.weigh.specs.Items.{item_of};
 
-use cells::order::differ;
 use model::Entry;
 
-// Whether item i, counted from 0, begins with x.
-pub fn begins(items: &[i64], k: usize, i: usize, x: i64) -> bool
+// Item i of a tray, counted from 0.
+pub fn item_at(items: &[i64], k: usize, i: usize) -> &[i64]
     requires { i * (k + 1) + (k + 1) ≤ length items.now }
-    ensures { result ≡ compare_is_eq (order (get_or items.now (i * (k + 1)) (pos 0)) x) }
+    ensures { result.now ≡ item_of k items.now i }
 {
-    !differ(items[i * (k + 1)], x)
+    let a = i * (k + 1);
+    &items[a..a + (k + 1)]
 }
 
-// Whether item i adds; else it strikes.
-pub fn adds(items: &[i64], k: usize, i: usize) -> bool
-    requires { i * (k + 1) + (k + 1) ≤ length items.now }
-    ensures { result ≡ trays.begins 1 (drop (i * (k + 1)) items.now) }
+// Whether an item adds; else it strikes.
+pub fn adds(item: &[i64]) -> bool
+    ensures { result ≡ trays.begins 1 item.now }
 {
-    begins(items, k, i, 1)
+    item.first() == Some(&1)
+}
+
+// Whether an item begins with 1 or 2.
+pub fn begun(item: &[i64]) -> bool
+    ensures { result ≡ (trays.begins 1 item.now || trays.begins 2 item.now) }
+{
+    adds(item) || item.first() == Some(&2)
 }
 
 // Whether two items have the same entry; where they do not, the first field mostly tells.
-pub fn alike(items: &[i64], k: usize, i: usize, j: usize) -> bool
-    requires { (i * (k + 1) + (k + 1) ≤ length items.now) × (j * (k + 1) + (k + 1) ≤ length items.now) }
-    ensures { (result ≡ true → entry_at k items.now j ≡ entry_at k items.now i) × (result ≡ false → entry_at k items.now j ≡ entry_at k items.now i → ⊥) }
+pub fn alike(a: &[i64], b: &[i64]) -> bool
+    requires { (1 ≤ length a.now) × (1 ≤ length b.now) }
+    ensures { IsTrue result ↔ (drop 1 a.now ≡ drop 1 b.now) }
 {
-    let a = i * (k + 1) + 1;
-    let b = j * (k + 1) + 1;
-    let mut field: usize = 0;
-    while field < k {
-        if differ(items[a + field], items[b + field]) {
-            return false;
-        }
-        field += 1;
-    }
-    true
+    a[1..] == b[1..]
 }
 
-// The entry of item i.
-pub fn entry_in(items: &[i64], k: usize, i: usize) -> Entry
-    requires { (k ≤ 4) × (i * (k + 1) + (k + 1) ≤ length items.now) }
-    ensures { result ≡ outward (entry_at k items.now i) }
+// The entry of an item.
+pub fn entry_in(item: &[i64]) -> Entry
+    requires { (1 ≤ length item.now) × (length item.now ≤ 5) }
+    ensures { result ≡ outward (drop 1 item.now) }
 {
-    let a = i * (k + 1) + 1;
-    let z = a + k;
-    cells::slot::entry_of(&items[a..z])
-}
-
-// Whether item i begins with 1 or 2.
-pub fn begun(items: &[i64], k: usize, i: usize) -> bool
-    requires { i * (k + 1) + (k + 1) ≤ length items.now }
-    ensures { result ≡ (trays.begins 1 (drop (i * (k + 1)) items.now) || trays.begins 2 (drop (i * (k + 1)) items.now)) }
-{
-    if adds(items, k, i) {
-        return true;
-    }
-    begins(items, k, i, 2)
+    cells::slot::entry_of(&item[1..])
 }
 
 // Whether the numbers are at most 256 items, whole ones, that begin with 1 or 2.
@@ -69,18 +51,13 @@ pub fn trayed(items: &[i64], k: usize) -> bool
     ensures { result ≡ trays.trayed k items.now }
 {
     let many = items.len() / (k + 1);
-    if 256 < many {
+    if 256 < many || items.len() % (k + 1) != 0 {
         return false;
     }
-    if items.len() % (k + 1) != 0 {
-        return false;
-    }
-    let mut i: usize = 0;
-    while i < many {
-        if !begun(items, k, i) {
+    for i in 0..many {
+        if !begun(item_at(items, k, i)) {
             return false;
         }
-        i += 1;
     }
     true
 }

@@ -14,24 +14,27 @@ pub const FEW: usize = 256;
 
 pub const MOST: usize = 4096;
 
+// Work over lists as long as a pool has slots: short ones for a small pool, since clearing long ones would be most of its work.
+#[macro_export]
+macro_rules! with_lists {
+    ($c:expr; $($list:ident),+; $work:expr) => {
+        if $c <= $crate::pool::FEW {
+            $(let mut $list = [0usize; $crate::pool::FEW];)+
+            $(let $list = &mut $list[..$c];)+
+            $work
+        } else {
+            $(let mut $list = [0usize; $crate::pool::MOST];)+
+            $(let $list = &mut $list[..$c];)+
+            $work
+        }
+    };
+}
+
 // Whether the entry is there.
 pub fn is_there(head: Head, keys: &[i64], links: &[usize], entry: Entry) -> bool
     requires { Sound head keys.now links.now }
     ensures { result ≡ has (inward head.k entry) (listing (book_of head keys.now links.now).tree) }
 {
-    let w = ask::walk::walk_down(
-        Shape {
-            k: head.k,
-            c: head.c,
-        },
-        head.root,
-        entry,
-        keys,
-        links,
-    );
-    match w {
-        Walk::Found(_, _) => true,
-        Walk::Gone(_) => false,
-        Walk::Astray => false,
-    }
+    let end = ask::walk::walk_down(Shape::from(head), head.root, entry, keys, links);
+    matches!(end, Walk::Found(..))
 }

@@ -7,12 +7,5 @@ pub fn zero_step(steps: [u64; 4], k: usize) -> bool
     requires { k ≤ 4 }
     ensures { result ≡ any_zero (take k steps) }
 {
-    let mut i: usize = 0;
-    while i < k {
-        if steps[i] == 0 {
-            return true;
-        }
-        i += 1;
-    }
-    false
+    steps[..k].contains(&0)
 }

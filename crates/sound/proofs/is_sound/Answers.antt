@@ -1,17 +1,17 @@
 use Rattle.sound.proofs.Verdict as verdict
 use Rattle.sound.proofs.is_sound.Goals as goal
+use Rattle.sound.proofs.is_sound.Goals.{then-head-via-then-head, then-head-via-else-head+then-head-2, then-head-via-else-head+else-head-2+then-head-3}
 
 pub returns-then-head : goal.returns-then-head
-returns-then-head c = search verdict.root-out
+returns-then-head c =
+    elim c.then-head.branch [
+      | then-head-via-then-head w ↦ search verdict.root-out
+      | then-head-via-else-head+then-head-2 w ↦ search verdict.free-out
+      | then-head-via-else-head+else-head-2+then-head-3 w ↦ search verdict.too_many
+    ]
 
-pub returns-then-head-2 : goal.returns-then-head-2
-returns-then-head-2 c = search verdict.free-out
+pub returns-then-tree_right : goal.returns-then-tree_right
+returns-then-tree_right c = search verdict.answer
 
-pub returns-then-head-3 : goal.returns-then-head-3
-returns-then-head-3 c = search verdict.too_many
-
-pub returns-then-not-tree_right : goal.returns-then-not-tree_right
-returns-then-not-tree_right c = search verdict.tree-wrong
-
-pub returns : goal.returns
-returns c = search verdict.answer
+pub returns-else-tree_right : goal.returns-else-tree_right
+returns-else-tree_right c = rw c.if-tree_right.false (search verdict.tree-wrong)

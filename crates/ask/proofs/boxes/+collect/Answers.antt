@@ -1,4 +1,4 @@
-use mathlib.Core.Path.{◌≡◌, refl}
+use mathlib.Core.Path.{◌≡◌}
 use lib.ListN.{length}
 use Rattle.ask.proofs.Collects as laws
 use Rattle.ask.proofs.Standing as standing
@@ -37,46 +37,31 @@ collect-m-requires t c =
 pub note-n-requires : goal.note-n-requires
 note-n-requires t c =
     let four : length c.args.bounds ≡ 4 = search rules in
-    let low : laws.Lower c.args.shape c.args.keys.now c.args.links.now c.args.s c.args.cut c.args.bounds c.requires.room.0 c.requires.room.1 four c.if-s-eq0.false c.weigh_slot-w.result c.weigh_slot-w.ensures c.args.slots.now c.if-w.slots c.args.at c.if-w.m =
-    elim c.if-w.branch [
-      | then-w w ↦ rw (w.slots-is, w.m-is) (laws.lower-taken c.args.shape c.args.keys.now c.args.links.now c.args.s c.args.cut c.args.bounds c.requires.room.0 c.requires.room.1 four c.if-s-eq0.false c.weigh_slot-w.result c.weigh_slot-w.ensures c.next_cut-next.result w.left_of-l.result c.args.slots.now w.collect-m.new.slots c.args.at w.collect-m.result c.next_cut-next.ensures w.left_of-l.ensures w.collect-m.ensures)
-      | else-w w ↦ rw (w.slots-is, w.m-is) (laws.lower-skipped c.args.shape c.args.keys.now c.args.links.now c.args.s c.args.cut c.args.bounds c.requires.room.0 c.requires.room.1 four c.if-s-eq0.false c.weigh_slot-w.result c.weigh_slot-w.ensures c.args.slots.now c.args.at w.if-w.false)
-    ] in
-    laws.note-fits c.args.shape c.args.keys.now c.args.links.now c.args.s c.args.cut c.args.bounds c.requires.room.0 c.requires.room.1 four c.if-s-eq0.false c.weigh_slot-w.result c.weigh_slot-w.ensures _ c.requires.at_in_bounds.1 c.args.slots.now c.if-w.slots c.args.at c.if-w.m low c.requires.at_in_bounds.0 refl
+    let low : laws.Lower c.args.shape.k c.args.keys.now c.args.links.now c.args.s c.args.cut c.args.bounds c.if-s-eq0.false c.args.slots.now c.if-w.slots c.args.at c.if-w.m =
+    elim c.if-w.branch [ then-w w ↦ rw (w.slots-is, w.m-is) (search laws.lower-taken) | else-w w ↦ rw (w.slots-is, w.m-is) (search laws.lower-skipped) ] in
+    search (laws.note-fits, rules)
 
 pub right_of-r-requires : goal.right_of-r-requires
-right_of-r-requires t c =
-    standing.slot-here c.args.shape c.args.keys.now c.args.links.now c.args.s c.args.cut _ c.requires.room.0 c.if-s-eq0.false c.requires.at_in_bounds.1
+right_of-r-requires t c = search (standing.slot-here, rules)
 
 pub collect-requires : goal.collect-requires
 collect-requires t c =
     let four : length c.args.bounds ≡ 4 = search rules in
-    let low : laws.Lower c.args.shape c.args.keys.now c.args.links.now c.args.s c.args.cut c.args.bounds c.requires.room.0 c.requires.room.1 four c.if-s-eq0.false c.weigh_slot-w.result c.weigh_slot-w.ensures c.args.slots.now c.if-w.slots c.args.at c.if-w.m =
-    elim c.if-w.branch [
-      | then-w w ↦ rw (w.slots-is, w.m-is) (laws.lower-taken c.args.shape c.args.keys.now c.args.links.now c.args.s c.args.cut c.args.bounds c.requires.room.0 c.requires.room.1 four c.if-s-eq0.false c.weigh_slot-w.result c.weigh_slot-w.ensures c.next_cut-next.result w.left_of-l.result c.args.slots.now w.collect-m.new.slots c.args.at w.collect-m.result c.next_cut-next.ensures w.left_of-l.ensures w.collect-m.ensures)
-      | else-w w ↦ rw (w.slots-is, w.m-is) (laws.lower-skipped c.args.shape c.args.keys.now c.args.links.now c.args.s c.args.cut c.args.bounds c.requires.room.0 c.requires.room.1 four c.if-s-eq0.false c.weigh_slot-w.result c.weigh_slot-w.ensures c.args.slots.now c.args.at w.if-w.false)
-    ] in
-    let g = c.requires.at_in_bounds.1 in let r = c.right_of-r in let d = c.next_cut-next in let n = c.note-n in
-    (rw (← c.decreases, r.ensures) (standing.right-falls c.args.shape.k c.args.keys.now c.args.links.now c.args.s c.args.cut c.if-s-eq0.false g.tree g.stands), ((c.requires.room.0, d.ensures.low), (laws.upper_fits c.args.shape c.args.keys.now c.args.links.now c.args.s c.args.cut c.args.bounds c.requires.room.0 c.requires.room.1 four c.if-s-eq0.false c.weigh_slot-w.result c.weigh_slot-w.ensures _ c.requires.at_in_bounds.1 c.args.slots.now c.if-w.slots c.args.at c.if-w.m low c.requires.at_in_bounds.0 refl n.new.slots n.result n.ensures, laws.upper-stands c.args.shape c.args.keys.now c.args.links.now c.args.s c.args.cut c.args.bounds c.requires.room.0 c.requires.room.1 four c.if-s-eq0.false c.weigh_slot-w.result c.weigh_slot-w.ensures _ c.requires.at_in_bounds.1 c.args.slots.now c.if-w.slots c.args.at c.if-w.m low c.requires.at_in_bounds.0 refl n.new.slots n.result n.ensures d.result r.result d.ensures r.ensures)))
+    let low : laws.Lower c.args.shape.k c.args.keys.now c.args.links.now c.args.s c.args.cut c.args.bounds c.if-s-eq0.false c.args.slots.now c.if-w.slots c.args.at c.if-w.m =
+    elim c.if-w.branch [ then-w w ↦ rw (w.slots-is, w.m-is) (search laws.lower-taken) | else-w w ↦ rw (w.slots-is, w.m-is) (search laws.lower-skipped) ] in
+    let g = c.requires.at_in_bounds.1 in
+    (rw (← c.decreases, c.right_of-r.ensures) (search standing.right-falls), ((c.requires.room.0, c.next_cut-next.ensures.low), (search (laws.upper_fits, rules), search (laws.upper-stands, rules))))
 
 pub returns-then-w-2 : goal.returns-then-w-2
 returns-then-w-2 t c =
     let four : length c.args.bounds ≡ 4 = search rules in
-    let low : laws.Lower c.args.shape c.args.keys.now c.args.links.now c.args.s c.args.cut c.args.bounds c.requires.room.0 c.requires.room.1 four c.if-s-eq0.false c.weigh_slot-w.result c.weigh_slot-w.ensures c.args.slots.now c.if-w.slots c.args.at c.if-w.m =
-    elim c.if-w.branch [
-      | then-w w ↦ rw (w.slots-is, w.m-is) (laws.lower-taken c.args.shape c.args.keys.now c.args.links.now c.args.s c.args.cut c.args.bounds c.requires.room.0 c.requires.room.1 four c.if-s-eq0.false c.weigh_slot-w.result c.weigh_slot-w.ensures c.next_cut-next.result w.left_of-l.result c.args.slots.now w.collect-m.new.slots c.args.at w.collect-m.result c.next_cut-next.ensures w.left_of-l.ensures w.collect-m.ensures)
-      | else-w w ↦ rw (w.slots-is, w.m-is) (laws.lower-skipped c.args.shape c.args.keys.now c.args.links.now c.args.s c.args.cut c.args.bounds c.requires.room.0 c.requires.room.1 four c.if-s-eq0.false c.weigh_slot-w.result c.weigh_slot-w.ensures c.args.slots.now c.args.at w.if-w.false)
-    ] in
-    let n = c.note-n in let r = c.right_of-r in let z = c.collect in let d = c.next_cut-next in
-    laws.collected-node c.args.shape c.args.keys.now c.args.links.now c.args.s c.args.cut c.args.bounds c.requires.room.0 c.requires.room.1 four c.if-s-eq0.false c.weigh_slot-w.result c.weigh_slot-w.ensures c.args.slots.now c.if-w.slots n.new.slots z.new.slots c.args.at c.if-w.m n.result z.result low n.ensures (laws.upper-taken c.args.shape c.args.keys.now c.args.links.now c.args.s c.args.cut c.args.bounds c.requires.room.0 c.requires.room.1 four c.if-s-eq0.false c.weigh_slot-w.result c.weigh_slot-w.ensures d.result r.result n.new.slots z.new.slots n.result z.result d.ensures r.ensures z.ensures)
+    let low : laws.Lower c.args.shape.k c.args.keys.now c.args.links.now c.args.s c.args.cut c.args.bounds c.if-s-eq0.false c.args.slots.now c.if-w.slots c.args.at c.if-w.m =
+    elim c.if-w.branch [ then-w w ↦ rw (w.slots-is, w.m-is) (search laws.lower-taken) | else-w w ↦ rw (w.slots-is, w.m-is) (search laws.lower-skipped) ] in
+    search (laws.collected-node, laws.upper-taken)
 
 pub returns : goal.returns
 returns t c =
     let four : length c.args.bounds ≡ 4 = search rules in
-    let low : laws.Lower c.args.shape c.args.keys.now c.args.links.now c.args.s c.args.cut c.args.bounds c.requires.room.0 c.requires.room.1 four c.if-s-eq0.false c.weigh_slot-w.result c.weigh_slot-w.ensures c.args.slots.now c.if-w.slots c.args.at c.if-w.m =
-    elim c.if-w.branch [
-      | then-w w ↦ rw (w.slots-is, w.m-is) (laws.lower-taken c.args.shape c.args.keys.now c.args.links.now c.args.s c.args.cut c.args.bounds c.requires.room.0 c.requires.room.1 four c.if-s-eq0.false c.weigh_slot-w.result c.weigh_slot-w.ensures c.next_cut-next.result w.left_of-l.result c.args.slots.now w.collect-m.new.slots c.args.at w.collect-m.result c.next_cut-next.ensures w.left_of-l.ensures w.collect-m.ensures)
-      | else-w w ↦ rw (w.slots-is, w.m-is) (laws.lower-skipped c.args.shape c.args.keys.now c.args.links.now c.args.s c.args.cut c.args.bounds c.requires.room.0 c.requires.room.1 four c.if-s-eq0.false c.weigh_slot-w.result c.weigh_slot-w.ensures c.args.slots.now c.args.at w.if-w.false)
-    ] in
-    let n = c.note-n in
-    laws.collected-node c.args.shape c.args.keys.now c.args.links.now c.args.s c.args.cut c.args.bounds c.requires.room.0 c.requires.room.1 four c.if-s-eq0.false c.weigh_slot-w.result c.weigh_slot-w.ensures c.args.slots.now c.if-w.slots n.new.slots n.new.slots c.args.at c.if-w.m n.result n.result low n.ensures (laws.upper-skipped c.args.shape c.args.keys.now c.args.links.now c.args.s c.args.cut c.args.bounds c.requires.room.0 c.requires.room.1 four c.if-s-eq0.false c.weigh_slot-w.result c.weigh_slot-w.ensures n.new.slots n.result c.if-w-2.false)
+    let low : laws.Lower c.args.shape.k c.args.keys.now c.args.links.now c.args.s c.args.cut c.args.bounds c.if-s-eq0.false c.args.slots.now c.if-w.slots c.args.at c.if-w.m =
+    elim c.if-w.branch [ then-w w ↦ rw (w.slots-is, w.m-is) (search laws.lower-taken) | else-w w ↦ rw (w.slots-is, w.m-is) (search laws.lower-skipped) ] in
+    search (laws.collected-node, laws.upper-skipped)

@@ -1,11 +1,7 @@
+use borrow.Author.Rules.{rules}
+use Rattle.std.proofs.lemmas.Cmp.{by_ranked}
 use Rattle.cells.proofs.Orders.{spans-equal, spans-less, spans-greater}
 use Rattle.cells.proofs.order.compare.Goals as goal
 
-pub returns-in-Equal : goal.returns-in-Equal
-returns-in-Equal c = search spans-equal
-
-pub returns-in-Less : goal.returns-in-Less
-returns-in-Less c = search spans-less
-
-pub returns-in-Greater : goal.returns-in-Greater
-returns-in-Greater c = search spans-greater
+pub returns : goal.returns
+returns c = by_ranked _ _ _ c.in_order.result c.then_with.ensures (λ e p. search (spans-less, rules)) (λ e p. search (spans-equal, rules)) (λ e p. search (spans-greater, rules))

@@ -1,36 +1,19 @@
 use borrow.Author.Rules.{rules}
 use native.Mathlib.Omega.{arith}
-use mathlib.Core.Path.{◌≡◌}
-use lib.ListN.{length, take}
+use lib.ListN.{length}
+use lib.Seq.{length-take-le}
 use Rattle.cells.proofs.Slots.{address-is-low, address-ends}
-use Rattle.cells.proofs.Writes.{wrote-all, kept-length}
+use Rattle.cells.proofs.Writes.{wrote_part}
 use Rattle.cells.proofs.slot.put_entry.Goals as goal
 
 pub overflow_add-at : goal.overflow_add-at
-overflow_add-at c =
-    let A = c.args in
-    let D = c.address-at in
-    let w = address-is-low A.shape.k A.s D.result D.ensures (search rules) (search rules) in
-    omega arith
+overflow_add-at c = omega (arith, address-is-low c.args.shape.k c.args.s _ c.address-at.ensures c.requires.0 c.requires.1.0)
 
 pub offset_bounds-keys-at : goal.offset_bounds-keys-at
-offset_bounds-keys-at c =
-    let A = c.args in
-    let D = c.address-at in
-    let w = address-is-low A.shape.k A.s D.result D.ensures (search rules) (search rules) in
-    omega arith
+offset_bounds-keys-at c = omega (arith, address-is-low c.args.shape.k c.args.s _ c.address-at.ensures c.requires.0 c.requires.1.0)
 
-pub bounds-keys-at : goal.bounds-keys-at
-bounds-keys-at c =
-    let A = c.args in
-    let D = c.address-at in
-    let w = address-ends A.shape.k (length A.keys.now) A.s D.result D.ensures (search rules) in
-    let n = kept-length A.keys.now c.loop-i.keys (take c.loop-i.i A.e.f) D.result c.loop-i.invariant.1 in
-    omega arith
+pub slice_bounds-copy_from_slice-end : goal.slice_bounds-copy_from_slice-end
+slice_bounds-copy_from_slice-end c = omega (arith, address-ends c.args.shape.k (length c.args.keys.now) c.args.s _ c.address-at.ensures c.requires.1.1)
 
 pub returns : goal.returns
-returns c =
-    let A = c.args in
-    let D = c.address-at in
-    let n : length A.e.f ≡ 4 = search rules in
-    wrote-all A.shape.k A.keys.now c.loop-i.keys A.s D.result c.loop-i.i A.e.f D.ensures (search rules) (omega arith) (omega arith) c.loop-i.invariant.1
+returns c = wrote_part c.args.shape.k c.args.keys.now _ _ c.args.s _ _ c.address-at.ensures c.requires.1.1 (omega arith) (search (length-take-le, rules)) c.copy_from_slice.ensures.after

@@ -1,23 +1,26 @@
-use Rattle.std.proofs.Common.{◌≡◌, ◌+◌, Bool, ◌&&◌, length, drop, sym, ap, ◌∙◌, arith, rules}
-use Rattle.model.specs.Ask.{in_box}
-use Rattle.gauge.proofs.Boxes.{box-turn, box-end}
+use Rattle.std.proofs.Common.{SFits, w64, sym, ◌∙◌, inl, inr, rules}
+use Rattle.std.specs.Slice.Iter.{iter_rest}
+use Rattle.std.proofs.lemmas.Int.{to_z-of_z}
+use Rattle.gauge.proofs.Boxes.{box-cons, no-bound, no-more}
 use Rattle.gauge.proofs.bounds.inside.Goals as goal
+
+pub loop-b-preserved : goal.loop-b-preserved
+loop-b-preserved c =
+    let h = c.in-Some in
+    let t = c.next.new.self in
+    let fits : SFits w64 h.x.now = search rules in
+    let d = simp to_z-of_z at c.within.ensures in
+    rw (h.ensures.steps.0, h.ensures.steps.1, box-cons h.b.now (iter_rest t.a) h.x.now (iter_rest t.b), ← d, c.if-not-within.false) at c.loop-b.invariant
 
 pub returns-then-not-within : goal.returns-then-not-within
 returns-then-not-within c =
-    let a = c.args in
-    let n : length a.bounds ≡ 4 = search rules in
-    let e = box-turn a.bounds a.part.now c.loop-i.i c.within.result (omega arith) (search rules) c.within-arg-1.given c.within.ensures in
-    let z = in_box (drop (c.loop-i.i + 1) a.bounds) (drop (c.loop-i.i + 1) a.part.now) in
-    sym (c.loop-i.invariant.1 ∙ e ∙ ap (λ (t : Bool). t && z) c.if-not-within.true)
-
-pub loop-i-preserved : goal.loop-i-preserved
-loop-i-preserved c =
-    let a = c.args in
-    let n : length a.bounds ≡ 4 = search rules in
-    let e = box-turn a.bounds a.part.now c.loop-i.i c.within.result (omega arith) (search rules) c.within-arg-1.given c.within.ensures in
-    let z = in_box (drop (c.loop-i.i + 1) a.bounds) (drop (c.loop-i.i + 1) a.part.now) in
-    (omega arith, c.loop-i.invariant.1 ∙ e ∙ ap (λ (t : Bool). t && z) c.if-not-within.false)
+    let h = c.in-Some in
+    let t = c.next.new.self in
+    let fits : SFits w64 h.x.now = search rules in
+    let d = simp to_z-of_z at c.within.ensures in
+    sym (rw (h.ensures.steps.0, h.ensures.steps.1, box-cons h.b.now (iter_rest t.a) h.x.now (iter_rest t.b), ← d, c.if-not-within.true) at c.loop-b.invariant)
 
 pub returns : goal.returns
-returns c = let a = c.args in sym (c.loop-i.invariant.1 ∙ box-end a.bounds a.part.now c.loop-i.i (search rules))
+returns c =
+    let s = c.loop-b.b-iterator in
+    sym (c.loop-b.invariant ∙ elim c.in-None.ensures.steps [ inl e ↦ no-bound (iter_rest s.a) (iter_rest s.b) e.1.0 | inr e ↦ no-more (iter_rest s.a) (iter_rest s.b) e.1.0 ])

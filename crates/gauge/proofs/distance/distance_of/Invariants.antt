@@ -1,9 +1,10 @@
-use Rattle.std.proofs.Common.{◌≡◌, ◌-◌, ◌≤◌, max, length, drop}
+use Rattle.std.proofs.Common.{◌≡◌, ℕ, ◌<◌, max, length, slice_index}
+use Rattle.std.specs.Slice.Iter.{iter_rest}
 use Rattle.model.specs.Entry.{distance}
 use Rattle.gauge.proofs.distance.distance_of.Given as goal
 
-abbrev pub invariant-loop-i : goal.invariant-loop-i
-invariant-loop-i l = (l.i ≤ length l.part) × (distance l.steps l.f l.part ≡ max l.best (distance (drop l.i l.steps) (drop l.i l.f) (drop l.i l.part)))
-
-abbrev pub decreases-loop-i : goal.decreases-loop-i
-decreases-loop-i l = length l.part - l.i
+abbrev pub invariant-loop-step : goal.invariant-loop-step
+invariant-loop-step l = record {
+  far : distance l.fn.steps l.fn.q.f l.part ≡ max l.best (distance (iter_rest l.step-iterator.a.a) (iter_rest l.step-iterator.a.b) (iter_rest l.step-iterator.b));
+  by_index : (i : ℕ) → i < length (iter_rest l.step-iterator.b) → 0 < slice_index (iter_rest l.step-iterator.a.a) i;
+}

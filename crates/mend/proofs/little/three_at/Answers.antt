@@ -1,26 +1,20 @@
 use Rattle.mend.proofs.Littles as laws
 use Rattle.mend.proofs.little.three_at.Goals as goal
 
-pub two_at-two-requires : goal.two_at-two-requires
-two_at-two-requires c =
-    let L = c.left_of-l in
-    let R = c.right_of-r in
-    laws.right-lying c.args.links.now c.args.s L.result R.result c.requires.0 L.ensures R.ensures c.requires.1
+pub two_at-requires : goal.two_at-requires
+two_at-requires c =
+    laws.right-lying c.requires.0 c.left_of.ensures c.right_of-r.ensures c.requires.1
 
-pub returns-then-l-eq0 : goal.returns-then-l-eq0
-returns-then-l-eq0 c =
-    let L = c.left_of-l in
-    let R = c.right_of-r in
-    laws.three-right c.args.links.now c.args.s L.result R.result c.requires.0 L.ensures R.ensures c.two_at-two.result.low c.two_at-two.result.high c.if-l-eq0.true c.two_at-two.ensures
+pub returns-in_ok-two-in-0-default : goal.returns-in_ok-two-in-0-default
+returns-in_ok-two-in-0-default c =
+    let two = c.in_ok-two-in-0-default in
+    laws.three-right c.requires.0 c.left_of.ensures c.right_of-r.ensures c.in-0-default.is-0 two.ensures
 
-pub two_at-two-requires-then-r-eq0 : goal.two_at-two-requires-then-r-eq0
-two_at-two-requires-then-r-eq0 c =
-    let L = c.left_of-l in
-    let R = c.right_of-r in
-    laws.left-lying c.args.links.now c.args.s L.result R.result c.requires.0 L.ensures R.ensures c.requires.1
+pub two_at-requires-in_default-eq0 : goal.two_at-requires-in_default-eq0
+two_at-requires-in_default-eq0 c =
+    laws.left-lying c.requires.0 c.left_of.ensures c.right_of-r.ensures c.requires.1
 
-pub returns-then-r-eq0 : goal.returns-then-r-eq0
-returns-then-r-eq0 c =
-    let L = c.left_of-l in
-    let R = c.right_of-r in
-    laws.three-left c.args.links.now c.args.s L.result R.result c.requires.0 L.ensures R.ensures c.two_at-two-then-r-eq0.result.low c.two_at-two-then-r-eq0.result.high c.if-r-eq0.true c.two_at-two-then-r-eq0.ensures
+pub returns-in_ok-two-in_default-eq0 : goal.returns-in_ok-two-in_default-eq0
+returns-in_ok-two-in_default-eq0 c =
+    let two = c.in_ok-two-in_default-eq0 in
+    laws.three-left c.requires.0 c.left_of.ensures c.right_of-r.ensures c.in_default-eq0.is-1 two.ensures

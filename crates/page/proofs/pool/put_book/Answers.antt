@@ -4,8 +4,8 @@ use Rattle.page.proofs.pool.put_book.Goals as goal
 pub height_of-height-requires : goal.height_of-height-requires
 height_of-height-requires c = laws.root-low c.args.head c.args.keys.now c.args.links.now c.requires.0
 
-pub overflow_sub-c : goal.overflow_sub-c
-overflow_sub-c c = laws.few c.args.head c.args.keys.now c.args.links.now c.requires.0
+pub overflow_sub-free : goal.overflow_sub-free
+overflow_sub-free c = laws.few c.args.head c.args.keys.now c.args.links.now c.requires.0
 
 pub put_totals-at-requires : goal.put_totals-at-requires
 put_totals-at-requires c =

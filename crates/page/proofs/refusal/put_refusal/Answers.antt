@@ -4,14 +4,14 @@ use Rattle.page.proofs.refusal.put_refusal.Goals as goal
 
 pub put_number-b-requires : goal.put_number-b-requires
 put_number-b-requires c =
-    let N = c.number_of-number in
+    let N = c.from in
     let A = c.put_number-a in
     let f = refusal-fits c.args.why c.args.line c.args.room.now c.ranges.line.fits c.requires in
     line-fits c.args.why c.args.line N.result N.ensures c.args.room.now f A.new.room A.result A.ensures
 
 pub bounds-room-b : goal.bounds-room-b
 bounds-room-b c =
-    let N = c.number_of-number in
+    let N = c.from in
     let A = c.put_number-a in
     let B = c.put_number-b in
     let f = refusal-fits c.args.why c.args.line c.args.room.now c.ranges.line.fits c.requires in
@@ -19,7 +19,7 @@ bounds-room-b c =
 
 pub returns : goal.returns
 returns c =
-    let N = c.number_of-number in
+    let N = c.from in
     let A = c.put_number-a in
     let B = c.put_number-b in
     let f = refusal-fits c.args.why c.args.line c.args.room.now c.ranges.line.fits c.requires in

@@ -14,29 +14,25 @@ use Rattle.print.proofs.size.line_length.Goals as goal
 use Rattle.print.proofs.size.line_length.Goals.{After-signed_length}
 
 -- what was had for the number at hand is its print's length
-printed : (c : After-signed_length) → let x = get_or c.args.part.now c.loop-i.i (pos 0) in (c.signed_length.result ≡ length (signed x)) × (length (signed x) ≤ 21)
+printed : (c : After-signed_length) → let x = get_or c.args.part.now c.loop-x.x-index (pos 0) in (c.signed_length.result ≡ length (signed x)) × (length (signed x) ≤ 21)
 printed c =
-    let x = get_or c.args.part.now c.loop-i.i (pos 0) in
+    let x = get_or c.args.part.now c.loop-x.x-index (pos 0) in
     let g : mag x < 2 ^ 63 = search rules in
     (c.signed_length.ensures ∙ ap (λ y. length (signed y)) (back x g), signed-short x g)
 
 pub overflow_add-count : goal.overflow_add-count
 overflow_add-count c = let p = printed c in omega arith
 
-pub overflow_add-count-in-loop-i : goal.overflow_add-count-in-loop-i
-overflow_add-count-in-loop-i c = let p = printed c in omega arith
+pub overflow_add-count-in-loop-x : goal.overflow_add-count-in-loop-x
+overflow_add-count-in-loop-x c = let p = printed c in omega arith
 
-pub loop-i-preserved : goal.loop-i-preserved
-loop-i-preserved c =
+pub loop-x-preserved : goal.loop-x-preserved
+loop-x-preserved c =
     let part = c.args.part.now in
-    let l = c.loop-i in
-    let x = get_or part l.i (pos 0) in
-    let g : mag x < 2 ^ 63 = search rules in
-    let p = c.signed_length.ensures ∙ ap (λ y. length (signed y)) (back x g) in
-    let q = signed-short x g in
-    omega (arith, laws.row_on part l.i (omega arith))
+    let p = printed c in
+    omega (arith, laws.row_on part c.loop-x.x-index (omega arith))
 
 pub returns : goal.returns
 returns c =
     let part = c.args.part.now in
-    omega (arith, laws.row-end part c.loop-i.i (97 + c.loop-i.i) (omega arith), laws.row-size part c.if-part-eq0.false)
+    omega (arith, laws.row-end part c.loop-x.x-index (97 + c.loop-x.x-index) (omega arith), laws.row-size part (λ z. grind (arith, z)))

@@ -1,7 +1,4 @@
-use mathlib.Core.Path.{◌≡◌, ap, ◌∙◌}
-use Rattle.cells.specs.Slots.{left_at, right_at, tall}
-use Rattle.ask.proofs.Standing as standing
-use Rattle.seek.specs.Sides.{child_at, other_of}
+use Rattle.cells.specs.Slots.{tall}
 use Rattle.seek.proofs.Seeking as laws
 use Rattle.seek.proofs.search.+best_of_seek_seek_other_seek_same.Goals as goal
 
@@ -18,27 +15,26 @@ best_of-further-requires-clause-keyed t c =
     (best.0, x.0)
 
 pub seek_other-left_of-l-requires : goal.seek_other-left_of-l-requires
-seek_other-left_of-l-requires t c = standing.slot-here c.args.shape c.args.keys.now c.args.links.now c.args.s c.args.cut _ c.requires.room.0 (laws.some c.args.s c.requires.room.1.1.1) c.requires.standing
+seek_other-left_of-l-requires t c = laws.here c.requires.room.0 c.requires.room.1.1.1 c.requires.standing
 
 pub seek_other-right_of-r-requires : goal.seek_other-right_of-r-requires
-seek_other-right_of-r-requires t c = standing.slot-here c.args.shape c.args.keys.now c.args.links.now c.args.s c.args.cut _ c.requires.room.0 (laws.some c.args.s c.requires.room.1.1.1) c.requires.standing
+seek_other-right_of-r-requires t c = laws.here c.requires.room.0 c.requires.room.1.1.1 c.requires.standing
 
 pub seek_other-best_of-best-requires : goal.seek_other-best_of-best-requires
 seek_other-best_of-best-requires t c =
-    let d = c.next_cut-next in
-    let l = c.left_of-l in
-    let f = standing.left-falls c.args.shape.k c.args.keys.now c.args.links.now c.args.s c.args.cut (laws.some c.args.s c.requires.room.1.1.1) c.requires.standing.tree c.requires.standing.stands in
-    (rw (← c.decreases, l.ensures) (laws.less-child (tall c.args.links.now (left_at c.args.links.now c.args.s)) (tall c.args.links.now c.args.s) f), ((c.requires.room.0, (c.requires.room.1.0, (d.ensures.low, (c.requires.room.1.1.1, standing.pooled c.args.shape c.args.keys.now c.args.links.now c.args.s c.args.cut _ c.requires.room.0 (laws.some c.args.s c.requires.room.1.1.1) c.requires.standing)))), rw l.ensures (standing.standing-left c.args.shape c.args.keys.now c.args.links.now c.args.s c.args.cut _ c.requires.room.0 (laws.some c.args.s c.requires.room.1.1.1) c.requires.standing d.result d.ensures)))
+    let R = c.requires.room in
+    let d = c.next_cut-next.ensures in
+    let low = laws.lower-call R.0 R.1.1.1 c.requires.standing d c.left_of-l.ensures in
+    (rw (← c.decreases) low.0, ((R.0, (R.1.0, (d.low, laws.in-pool R.0 R.1.1.1 c.requires.standing))), low.1))
 
 pub seek_other-best_of-requires : goal.seek_other-best_of-requires
 seek_other-best_of-requires t c =
-    let d = c.next_cut-next in
-    let l = c.left_of-l in
-    let r = c.right_of-r in
-    let b = c.best_of-best in
-    let f = standing.right-falls c.args.shape.k c.args.keys.now c.args.links.now c.args.s c.args.cut (laws.some c.args.s c.requires.room.1.1.1) c.requires.standing.tree c.requires.standing.stands in
-    let p = laws.better-pooled c.args.shape c.args.keys.now c.args.links.now c.requires.room.0 c.args.side c.args.home c.requires.room.1.0 c.args.s l.result d.result c.args.shape.c b.result (c.requires.room.1.1.1, standing.pooled c.args.shape c.args.keys.now c.args.links.now c.args.s c.args.cut _ c.requires.room.0 (laws.some c.args.s c.requires.room.1.1.1) c.requires.standing) (rw l.ensures (standing.standing-left c.args.shape c.args.keys.now c.args.links.now c.args.s c.args.cut _ c.requires.room.0 (laws.some c.args.s c.requires.room.1.1.1) c.requires.standing d.result d.ensures)) b.ensures in
-    (rw (← c.decreases, r.ensures) (laws.less-child (tall c.args.links.now (right_at c.args.links.now c.args.s)) (tall c.args.links.now c.args.s) f), ((c.requires.room.0, (c.requires.room.1.0, (d.ensures.low, p))), rw r.ensures (standing.standing-right c.args.shape c.args.keys.now c.args.links.now c.args.s c.args.cut _ c.requires.room.0 (laws.some c.args.s c.requires.room.1.1.1) c.requires.standing d.result d.ensures)))
+    let R = c.requires.room in
+    let d = c.next_cut-next.ensures in
+    let low = laws.lower-call R.0 R.1.1.1 c.requires.standing d c.left_of-l.ensures in
+    let high = laws.upper-call R.0 R.1.1.1 c.requires.standing d c.right_of-r.ensures in
+    let p = laws.better-pooled c.args.shape c.args.keys.now c.args.links.now R.0 c.args.side c.args.home R.1.0 c.args.s c.left_of-l.result c.next_cut-next.result c.args.shape.c c.best_of-best.result (laws.in-pool R.0 R.1.1.1 c.requires.standing) low.1 c.best_of-best.ensures in
+    (rw (← c.decreases) high.0, ((R.0, (R.1.0, (d.low, p))), high.1))
 
 pub seek_other-returns : goal.seek_other-returns
 seek_other-returns t c =
@@ -48,25 +44,24 @@ seek_other-returns t c =
     laws.sought-other c.args.shape.k c.args.keys.now c.args.links.now c.args.side c.args.home c.args.s c.args.cut d.result l.result r.result c.best_of-best.result c.best_of.result d.ensures l.ensures r.ensures c.best_of-best.ensures c.best_of.ensures
 
 pub seek_same-child_of-far-requires : goal.seek_same-child_of-far-requires
-seek_same-child_of-far-requires t c = standing.slot-here c.args.shape c.args.keys.now c.args.links.now c.args.s c.args.cut _ c.requires.room.0 (laws.some c.args.s c.requires.room.1.1.1) c.requires.standing
+seek_same-child_of-far-requires t c = laws.here c.requires.room.0 c.requires.room.1.1.1 c.requires.standing
 
 pub seek_same-returns-then-far-eq0 : goal.seek_same-returns-then-far-eq0
 seek_same-returns-then-far-eq0 t c =
-    let far-is : c.child_of-far.result ≡ child_at c.args.links.now c.args.s (other_of c.args.side) = c.child_of-far.ensures ∙ ap (child_at c.args.links.now c.args.s) c.other.ensures in
-    laws.sought-here c.args.shape c.args.keys.now c.args.links.now c.requires.room.0 c.args.side c.args.home c.args.s c.args.cut c.child_of-far.result c.requires.room.1.0 far-is c.if-far-eq0.true
+    let e = rw c.other.ensures at c.child_of-far.ensures in
+    laws.sought-here c.args.shape c.args.keys.now c.args.links.now c.requires.room.0 c.args.side c.args.home c.args.s c.args.cut c.child_of-far.result c.requires.room.1.0 e c.if-far-eq0.true
 
 pub seek_same-seek-requires : goal.seek_same-seek-requires
 seek_same-seek-requires t c =
-    let far-is : c.child_of-far.result ≡ child_at c.args.links.now c.args.s (other_of c.args.side) = c.child_of-far.ensures ∙ ap (child_at c.args.links.now c.args.s) c.other.ensures in
+    let e = rw c.other.ensures at c.child_of-far.ensures in
     let d = c.next_cut-next in
     let far = c.child_of-far.result in
-    let e = far-is in
     let h = laws.far-falls c.args.shape c.args.keys.now c.args.links.now c.requires.room.0 c.args.side c.args.home c.args.s c.args.cut far c.requires.room.1.0 e (laws.some c.args.s c.requires.room.1.1.1) _ c.requires.standing in
     (rw (← c.decreases) (laws.less-far (tall c.args.links.now far) (tall c.args.links.now c.args.s) h), ((c.requires.room.0, (rw c.requires.room.1.0 c.requires.room.1.1.0, (d.ensures.low, laws.none-not far c.if-far-eq0.false))), laws.standing-far c.args.shape c.args.keys.now c.args.links.now c.requires.room.0 c.args.side c.args.home c.args.s c.args.cut far c.requires.room.1.0 e (laws.some c.args.s c.requires.room.1.1.1) _ c.requires.standing d.result d.ensures))
 
 pub seek_same-returns : goal.seek_same-returns
 seek_same-returns t c =
-    let far-is : c.child_of-far.result ≡ child_at c.args.links.now c.args.s (other_of c.args.side) = c.child_of-far.ensures ∙ ap (child_at c.args.links.now c.args.s) c.other.ensures in
+    let e = rw c.other.ensures at c.child_of-far.ensures in
     let d = c.next_cut-next in
     let far = c.child_of-far.result in
-    laws.sought-far c.args.shape c.args.keys.now c.args.links.now c.requires.room.0 c.args.side c.args.home c.args.s c.args.cut far c.requires.room.1.0 far-is d.result c.seek.result c.if-far-eq0.false d.ensures c.seek.ensures
+    laws.sought-far c.args.shape c.args.keys.now c.args.links.now c.requires.room.0 c.args.side c.args.home c.args.s c.args.cut far c.requires.room.1.0 e d.result c.seek.result c.if-far-eq0.false d.ensures c.seek.ensures

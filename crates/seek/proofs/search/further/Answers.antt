@@ -1,11 +1,11 @@
 use Rattle.seek.proofs.Seeking as laws
 use Rattle.seek.proofs.search.further.Goals as goal
 
-pub returns-in-Right : goal.returns-in-Right
-returns-in-Right c = search laws.less-right
+pub returns-in-Less-Left-2 : goal.returns-in-Less-Left-2
+returns-in-Less-Left-2 c = search laws.greater-right
 
-pub returns-in-Equal : goal.returns-in-Equal
-returns-in-Equal c = search laws.equal
+pub returns-in-Less-Right : goal.returns-in-Less-Right
+returns-in-Less-Right c = search laws.less-right
 
-pub returns-in-Right-side : goal.returns-in-Right-side
-returns-in-Right-side c = search laws.greater-right
+pub returns-in-Equal-default : goal.returns-in-Equal-default
+returns-in-Equal-default c = search laws.equal

@@ -1,14 +1,15 @@
-use Rattle.sound.proofs.Walk as walk
+use Rattle.std.proofs.Common.{rules}
+use Rattle.sound.proofs.Walk.{too-short, off-pool, not-cleared, same-on}
 use Rattle.sound.proofs.chain.chain_right.Goals as goal
+use Rattle.sound.proofs.chain.chain_right.Goals.{then-s-eq0-via-then-s-eq0, then-s-eq0-via-else-s-eq0+then-shape-s, then-s-eq0-via-else-s-eq0+else-shape-s+then-not-is_cleared}
 
-pub returns-then-shape-s : goal.returns-then-shape-s
-returns-then-shape-s c = search walk.off-pool
+pub returns-then-s-eq0 : goal.returns-then-s-eq0
+returns-then-s-eq0 c =
+    elim c.then-s-eq0.branch [
+      | then-s-eq0-via-then-s-eq0 w ↦ search (too-short, rules)
+      | then-s-eq0-via-else-s-eq0+then-shape-s w ↦ search off-pool
+      | then-s-eq0-via-else-s-eq0+else-shape-s+then-not-is_cleared w ↦ search not-cleared
+    ]
 
-pub returns-then-not-is_cleared : goal.returns-then-not-is_cleared
-returns-then-not-is_cleared c = search walk.not-cleared
-
-pub loop-s-preserved : goal.loop-s-preserved
-loop-s-preserved c = search walk.same-on
-
-pub returns : goal.returns
-returns c = search walk.chain-end
+pub loop-preserved : goal.loop-preserved
+loop-preserved c = search (same-on, rules)

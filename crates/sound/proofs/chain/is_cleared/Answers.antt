@@ -1,33 +1,25 @@
-use lib.ListN.{length}
-use Rattle.sound.proofs.Walk as walk
-use Rattle.sound.proofs.Marks as marks
-use native.Mathlib.Omega.{arith}
-use Rattle.cells.proofs.Slots.{address-is-low, address-ends}
+use Rattle.std.proofs.Common.{length, sym, ◌∙◌}
+use borrow.Author.Tests.{eqb-true}
+use Rattle.sound.proofs.Walk.{cleared_is, not_cleared}
 use Rattle.sound.proofs.chain.is_cleared.Goals as goal
+use Rattle.sound.proofs.chain.is_cleared.Goals.{then-right_of-eq0, else-right_of-eq0}
 
-pub returns-then-right_of-ne0 : goal.returns-then-right_of-ne0
-returns-then-right_of-ne0 c = search walk.not_right
+pub returns-then-height_of-eq0 : goal.returns-then-height_of-eq0
+returns-then-height_of-eq0 c =
+    let A = c.args in
+    let x = c.right_of in
+    elim c.if-right_of-eq0.branch [
+      | then-right_of-eq0 w ↦ let y = w.height_of in let h = sym w.value-is ∙ c.if-height_of-eq0.true in
+          rw (cleared_is A.shape.k A.keys.now A.links.now (length A.links.now) A.s x.result y.result c.requires.1 x.ensures y.ensures, w.if-right_of-eq0.true, h, ← c.numbers.ensures.are) c.all_zero.ensures
+      | else-right_of-eq0 w ↦ absurd (w.if-right_of-eq0.false (eqb-true x.result 0 (sym w.value-is ∙ c.if-height_of-eq0.true)))
+    ]
 
-pub returns-then-height_of-ne0 : goal.returns-then-height_of-ne0
-returns-then-height_of-ne0 c = search walk.not_low
-
-pub overflow_add-z : goal.overflow_add-z
-overflow_add-z c =
-    let room = c.requires.0 in
-    let D = c.address-a in
-    omega (arith, address-is-low c.args.shape.k c.args.s D.result D.ensures room.k_high (marks.is-small _ _ _ room c.args.s (marks.slot-in _ _ _ room c.args.s c.requires.1)), room.k_high)
-
-pub offset_bounds-keys-a : goal.offset_bounds-keys-a
-offset_bounds-keys-a c =
-    let room = c.requires.0 in
-    let D = c.address-a in
-    omega (arith, address-is-low c.args.shape.k c.args.s D.result D.ensures room.k_high (marks.is-small _ _ _ room c.args.s (marks.slot-in _ _ _ room c.args.s c.requires.1)), room.k_high)
-
-pub slice_bounds-all_zero-end : goal.slice_bounds-all_zero-end
-slice_bounds-all_zero-end c =
-    let room = c.requires.0 in
-    let D = c.address-a in
-    omega (arith, address-ends c.args.shape.k (length c.args.keys.now) c.args.s D.result D.ensures (marks.is-keyed _ _ _ room c.args.s (marks.slot-some _ _ c.requires.1) (marks.slot-in _ _ _ room c.args.s c.requires.1)))
-
-pub returns : goal.returns
-returns c = search walk.cleared_by
+pub returns-else-height_of-eq0 : goal.returns-else-height_of-eq0
+returns-else-height_of-eq0 c =
+    let A = c.args in
+    let x = c.right_of in
+    elim c.if-right_of-eq0.branch [
+      | then-right_of-eq0 w ↦ let y = w.height_of in let h = sym w.value-is ∙ c.if-height_of-eq0.false in
+          rw (cleared_is A.shape.k A.keys.now A.links.now (length A.links.now) A.s x.result y.result c.requires.1 x.ensures y.ensures, w.if-right_of-eq0.true, h) c.if-height_of-eq0.false
+      | else-right_of-eq0 w ↦ c.if-height_of-eq0.false ∙ sym (not_cleared A.shape.k A.keys.now A.links.now A.s x.result x.ensures w.if-right_of-eq0.false)
+    ]

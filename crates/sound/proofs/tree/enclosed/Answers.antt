@@ -1,5 +1,5 @@
-use Rattle.sound.proofs.Edges as edges
+use Rattle.sound.proofs.Edges.{amid-inside}
 use Rattle.sound.proofs.tree.enclosed.Goals as goal
 
 pub returns-then-amid : goal.returns-then-amid
-returns-then-amid c = search edges.amid-inside
+returns-then-amid c = rw c.if-amid.true (search amid-inside)

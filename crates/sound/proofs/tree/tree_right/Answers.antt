@@ -8,4 +8,4 @@ pub returns-then-height_of-gt16 : goal.returns-then-height_of-gt16
 returns-then-height_of-gt16 c = search verdict.too-tall
 
 pub returns : goal.returns
-returns c = search verdict.whole_by
+returns c = let j = rw c.open.ensures.0 at c.pass.ensures.0 in search verdict.whole_by

@@ -1,9 +1,9 @@
-use native.Mathlib.Omega.{arith}
+use Rattle.std.proofs.Common.{sym, ◌∙◌}
 use Rattle.text.proofs.BookBack as laws
 use Rattle.text.proofs.book.first_entry.Goals as goal
 
-pub returns-then-text-at-eq10 : goal.returns-then-text-at-eq10
-returns-then-text-at-eq10 c = (search laws.entry_here, omega arith)
+pub unwrap-end-requires : goal.unwrap-end-requires
+unwrap-end-requires c = rw c.line_end.ensures (laws.cut-found c.args.text.now c.requires.0 c.requires.1)
 
 pub returns : goal.returns
-returns c = (search laws.entry-nowhere, omega arith)
+returns c = laws.behind-first c.args.text.now _ (sym c.line_end.ensures ∙ c.unwrap-end.ensures)

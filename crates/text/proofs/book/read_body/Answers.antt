@@ -1,21 +1,18 @@
-use mathlib.Core.Path.{ap}
-use mathlib.Core.Bool.{not}
-use native.Mathlib.Omega.{arith}
+use Rattle.std.proofs.Common.{arith}
+use Rattle.std.proofs.lemmas.Result.{err_from_is_err_and}
 use Rattle.text.proofs.BookBack as laws
 use Rattle.text.proofs.book.read_body.Goals as goal
 
-pub returns-then-not-line : goal.returns-then-not-line
-returns-then-not-line c = search laws.body-line
+pub returns-in_err-f : goal.returns-in_err-f
+returns-in_err-f c =
+    let p = err_from_is_err_and c.from_residual.result c.from_residual.ensures.1 in
+    let h = c.in_err-f.ensures in
+    rw (p.1, p.2, laws.same_err (rw h.ok_part at h.value)) (laws.body-line c.args.text.now c.args.title.fields c.args.title.entries _ _ _ c.loop-i.invariant (omega arith) (omega arith) (rw h.ok_part at c.read_line.ensures.read))
 
 pub returns-then-not-follows : goal.returns-then-not-follows
-returns-then-not-follows c = search laws.body-order
+returns-then-not-follows c =
+    laws.body-order c.args.text.now c.args.title.fields c.args.title.entries _ _ _ c.loop-i.invariant (omega arith) (omega arith) _ _ (rw c.in_ok-f.ensures.ok_part at c.read_line.ensures.read) c.if-not-follows.ensures
 
 pub loop-i-preserved : goal.loop-i-preserved
 loop-i-preserved c =
-    let l = c.loop-i in
-    let r = c.read_line-line in
-    let w = r.ensures.within in
-    (omega arith, (omega arith, laws.body-on c.args.text.now c.args.at c.args.k c.args.n l.last l.next l.i l.invariant.1.1 c.requires.0.0 c.loop-i-test.true r.result r.ensures c.if-not-line.false _ c.follows.ensures (ap not c.if-not-follows.false)))
-
-pub returns-then-next-text : goal.returns-then-next-text
-returns-then-next-text c = search laws.body-left
+    laws.body-on c.args.text.now c.args.title.fields c.args.title.entries _ _ _ c.loop-i.invariant (omega arith) (omega arith) _ _ (rw c.in_ok-f.ensures.ok_part at c.read_line.ensures.read) c.if-not-follows.ensures

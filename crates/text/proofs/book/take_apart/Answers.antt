@@ -1,11 +1,17 @@
+use Rattle.std.proofs.Common.{◌∙◌}
+use Rattle.std.proofs.lemmas.Result.{err_from_is_err_and}
+use Rattle.text.proofs.BookBack.{same_err}
 use Rattle.text.proofs.TitleBack as laws
 use Rattle.text.proofs.book.take_apart.Goals as goal
 
-pub returns-then-not-t : goal.returns-then-not-t
-returns-then-not-t c = search laws.text-bad
+pub returns-in_err-title : goal.returns-in_err-title
+returns-in_err-title c =
+    let p = err_from_is_err_and c.from_residual.result c.from_residual.ensures.1 in
+    let h = c.in_err-title.ensures in
+    rw (p.1, p.2, same_err (rw h.ok_part at h.value)) (laws.text-bad _ (rw h.ok_part at c.read_title.ensures))
 
 pub read_body-requires : goal.read_body-requires
-read_body-requires c = let t = c.read_title-t in let z = laws.text-sizes c.args.text.now t.result.ok t.result.fields t.result.entries t.result.next t.ensures.0 c.if-not-t.false in (z.0, (z.1, t.ensures.1))
+read_body-requires c = laws.text-sizes _ _ _ c.in_ok-title.body.now (rw c.in_ok-title.ensures.ok_part at c.read_title.ensures)
 
 pub returns : goal.returns
-returns c = search laws.text-body
+returns c = c.read_body.ensures ∙ laws.text-body _ _ _ c.in_ok-title.body.now (rw c.in_ok-title.ensures.ok_part at c.read_title.ensures)

@@ -1,20 +1,19 @@
-use mathlib.Core.Bool.{false≢true}
-use Prim.Native.Nat.{◌<◌}
-use native.Mathlib.Omega.{arith}
-use lib.ListN.{length, length-set}
-use Rattle.text.proofs.Pairs as laws
+use Rattle.std.proofs.Common.{arith, rules}
+use lib.ListN.{length-set}
 use Rattle.model.proofs.Machine.{back}
+use Rattle.text.proofs.Pairs as laws
 use Rattle.text.proofs.line.read_line.Goals as goal
 
-pub returns-then-not-x : goal.returns-then-not-x
-returns-then-not-x c = record { read = search laws.line-none; filled = λ h. absurd (false≢true h); sized = omega arith; within = omega arith }
+pub returns-in_err-f-clause-read : goal.returns-in_err-f-clause-read
+returns-in_err-f-clause-read c = rw c.from_residual.ensures (laws.line-none _ _ _ _ _ c.loop-i.invariant.read (omega arith) _ c.end_byte.ensures c.in_err-f.ensures)
 
 pub loop-i-preserved : goal.loop-i-preserved
 loop-i-preserved c =
-    let l = c.loop-i in
-    let h : l.i < 4 = omega arith in
-    let g : l.i < length l.f = omega arith in
-    (omega arith, (omega arith, (search laws.fill_on, (simp length-set (omega arith), search (laws.line-more, back)))))
+    record {
+      zeros = laws.fill_on _ _ _ c.loop-i.invariant.zeros (omega arith);
+      sized = simp length-set (omega arith);
+      read = laws.line-more _ _ _ _ _ c.loop-i.invariant.read (omega arith) _ c.end_byte.ensures _ _ c.in_ok-f.ensures (omega arith) _ (search (rules, back));
+    }
 
-pub returns : goal.returns
-returns c = record { read = search laws.line-done; filled = λ h. search laws.filled-all; sized = omega arith; within = omega arith }
+pub returns-clause-read : goal.returns-clause-read
+returns-clause-read c = laws.line-done _ _ c.loop-i.f _ _ c.loop-i.invariant.read (omega arith)

@@ -1,5 +1,5 @@
 use mathlib.Core.Path.{◌≡◌}
-use Prim.Native.Nat.{◌≤◌, ◌+◌, ◌-◌}
+use Prim.Native.Nat.{◌+◌, ◌-◌}
 use lib.IntN.{pos}
 use lib.ListN.{length, take, drop, replicate}
 use Rattle.text.specs.Strict.{line_at}
@@ -7,7 +7,9 @@ use Rattle.text.proofs.Pairs.{prefixed}
 use Rattle.text.proofs.line.read_line.Given as goal
 
 abbrev pub invariant-loop-i : goal.invariant-loop-i
-invariant-loop-i l = (l.i ≤ l.k) × ((l.next ≤ length l.text) × ((drop l.i l.f ≡ replicate (4 - l.i) (pos 0)) × ((length l.f ≡ 4) × (line_at l.k 97 (drop l.at l.text) ≡ prefixed (take l.i l.f) (line_at (l.k - l.i) (97 + l.i) (drop l.next l.text))))))
-
-abbrev pub decreases-loop-i : goal.decreases-loop-i
-decreases-loop-i l = l.k - l.i
+invariant-loop-i l =
+    record {
+      zeros : drop l.i l.f ≡ replicate (4 - l.i) (pos 0);
+      sized : length l.f ≡ 4;
+      read : line_at l.k 97 l.text ≡ prefixed (take l.i l.f) (line_at (l.k - l.i) (97 + l.i) l.rest);
+    }

@@ -1,21 +1,22 @@
-use native.Mathlib.Omega.{arith}
+use borrow.Author.Tests.{ltb-true}
+use Rattle.std.proofs.Common.{arith}
 use Rattle.text.proofs.Readings as laws
 use Rattle.text.proofs.number.read_decimal.Goals as goal
+use Rattle.text.proofs.number.read_decimal.Goals.{in_default-via-then-text-lt1, in_default-via-else-text-lt1+in_default+then-text-lt48, in_default-via-else-text-lt1+in_default+else-text-lt48+else-text-lt58}
 
-pub returns-then-at-text : goal.returns-then-at-text
-returns-then-at-text c = (search laws.decimal-out, omega arith)
+pub returns-in-48 : goal.returns-in-48
+returns-in-48 c = laws.decimal-zero _ (omega arith) (omega arith)
 
-pub returns-then-b-eq48 : goal.returns-then-b-eq48
-returns-then-b-eq48 c = (search laws.decimal-zero, omega arith)
+pub returns-then-value-le9223372036854775808 : goal.returns-then-value-le9223372036854775808
+returns-then-value-le9223372036854775808 c = laws.decimal-is _ (omega arith) (omega arith) (omega arith) _ _ _ c.from.ensures c.read_digits-value.ensures (omega arith)
 
-pub returns-then-b-lt48 : goal.returns-then-b-lt48
-returns-then-b-lt48 c = (search laws.decimal-low, omega arith)
+pub returns-else-value-le9223372036854775808 : goal.returns-else-value-le9223372036854775808
+returns-else-value-le9223372036854775808 c = laws.decimal-big _ (omega arith) (omega arith) (omega arith) _ _ _ c.from.ensures c.read_digits-value.ensures (omega arith)
 
-pub returns-then-b-gt57 : goal.returns-then-b-gt57
-returns-then-b-gt57 c = (search laws.decimal-high, omega arith)
-
-pub returns-then-d-gt9223372036854775808 : goal.returns-then-d-gt9223372036854775808
-returns-then-d-gt9223372036854775808 c = (search laws.decimal-big, omega arith)
-
-pub returns : goal.returns
-returns c = (search laws.decimal-is, omega arith)
+pub returns-in_default : goal.returns-in_default
+returns-in_default c =
+    laws.decimal-none c.args.text.now (λ a b d. elim c.in_default.branch [
+      | in_default-via-then-text-lt1 w ↦ omega (arith, ltb-true)
+      | in_default-via-else-text-lt1+in_default+then-text-lt48 w ↦ omega arith
+      | in_default-via-else-text-lt1+in_default+else-text-lt48+else-text-lt58 w ↦ omega arith
+    ])

@@ -1,15 +1,10 @@
-use native.Mathlib.Omega.{arith}
+use Rattle.std.proofs.Common.{arith}
 use Rattle.text.proofs.Readings as laws
 use Rattle.text.proofs.number.read_digits.Goals as goal
+use Rattle.text.proofs.number.read_digits.Goals.{in_default, in_default-2, in_default-3}
 
-pub returns-then-b-lt48 : goal.returns-then-b-lt48
-returns-then-b-lt48 c = (search laws.digits_low, omega arith)
-
-pub returns-then-b-gt57 : goal.returns-then-b-gt57
-returns-then-b-gt57 c = (search laws.digits-high, omega arith)
-
-pub loop-next-preserved : goal.loop-next-preserved
-loop-next-preserved c = (omega arith, search laws.digits-on)
+pub loop-rest-preserved : goal.loop-rest-preserved
+loop-rest-preserved c = laws.digits-on _ _ _ _ c.loop-rest.invariant _ (omega arith) (omega arith) (omega arith) c.grow-sum.ensures
 
 pub returns : goal.returns
-returns c = (search laws.digits-out, omega arith)
+returns c = laws.digits-off _ _ _ _ c.loop-rest.invariant (λ a b d. elim c.if-rest-lt1.branch [ in_default w ↦ omega arith | in_default-2 w ↦ omega arith | in_default-3 w ↦ omega arith ])

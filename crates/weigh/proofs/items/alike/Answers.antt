@@ -1,8 +1,7 @@
-use mathlib.Core.Bool.{true≢false}
-use Prim.Native.Nat.{◌+◌, ◌*◌}
-use native.Mathlib.Omega.{arith}
-use Rattle.weigh.proofs.Begun.{fields-same}
+use Rattle.std.proofs.lemmas.Bool.Decides.{Decides-int_eq}
+use Rattle.std.proofs.lemmas.Slice.Eq.{slice_eq-Decides}
+use Rattle.weigh.proofs.Begun.{rest_of}
 use Rattle.weigh.proofs.items.alike.Goals as goal
 
 pub returns : goal.returns
-returns c = let l = c.loop-field in ((λ t. fields-same c.args.items.now c.args.k (c.args.i * (c.args.k + 1) + 1) (c.args.j * (c.args.k + 1) + 1) (omega arith) (omega arith) (λ f q. l.invariant.1 f (omega (arith, c.loop-field-test.false)))), λ t. absurd (true≢false t))
+returns c = rw (← rest_of c.args.a.now, ← rest_of c.args.b.now) (slice_eq-Decides Decides-int_eq _ _ _ c.eq.ensures)

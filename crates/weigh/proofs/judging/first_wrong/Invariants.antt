@@ -1,10 +1,6 @@
-use Prim.Native.Nat.{◌-◌}
 use Rattle.model.specs.Pool.{book_of}
 use Rattle.weigh.proofs.Judged.{Judging}
 use Rattle.weigh.proofs.judging.first_wrong.Given as goal
 
 abbrev pub invariant-loop-i : goal.invariant-loop-i
 invariant-loop-i l = Judging l.head (book_of l.head l.keys l.links) l.items l.n l.i
-
-abbrev pub decreases-loop-i : goal.decreases-loop-i
-decreases-loop-i l = l.many - l.i

@@ -7,6 +7,3 @@ use Rattle.weigh.proofs.judging.there_by.Given as goal
 
 abbrev pub invariant-loop-j : goal.invariant-loop-j
 invariant-loop-j l = Silent l.k l.items (entry_at l.k l.items l.i) (has (entry_at l.k l.items l.i) (listing (book_of l.head l.keys l.links).tree)) l.i l.j
-
-abbrev pub decreases-loop-j : goal.decreases-loop-j
-decreases-loop-j l = l.j

@@ -1,21 +1,30 @@
 use native.Mathlib.Omega.{arith}
+use mathlib.Core.Path.{◌≡◌, ◌∙◌}
+use mathlib.Core.List.{[], ◌∷◌}
+use lib.ListN.{length}
+use Rattle.model.specs.Answer.{inward}
+use Rattle.model.specs.Ask.{new_of}
 use Rattle.model.specs.Pool.{book_of}
 use Rattle.model.specs.Rebuild.{listing}
-use Rattle.weigh.proofs.Counted.{counts-first, counts-on, counts-low}
+use Rattle.weigh.proofs.Counted.{counts-first, counts-on, counts-low, one-new}
 use Rattle.weigh.proofs.Saved.{text-cut, reads_first, line-ready}
 use Rattle.weigh.proofs.lines.count_new.Goals as goal
 
-pub first_entry-at-requires : goal.first_entry-at-requires
-first_entry-at-requires c = text-cut c.args.text.now c.args.head.k c.args.lines c.requires.1
+pub first_entry-rest-requires : goal.first_entry-rest-requires
+first_entry-rest-requires c = text-cut c.args.text.now c.args.head.k c.args.lines c.requires.1
 
-pub loop-i-init : goal.loop-i-init
-loop-i-init c = counts-first (listing (book_of c.args.head c.args.keys.now c.args.links.now).tree) c.args.text.now c.args.head.k c.args.lines c.requires.1 c.first_entry-at.result (reads_first c.args.text.now c.args.head.k c.args.lines c.requires.1 c.first_entry-at.result c.first_entry-at.ensures)
+pub read_entry-requires : goal.read_entry-requires
+read_entry-requires c = let l = c.loop in line-ready c.args.text.now c.args.head.k c.args.lines c.requires.1 _ _ l.invariant.0 (omega arith)
 
-pub read_entry-line-requires : goal.read_entry-line-requires
-read_entry-line-requires c = let l = c.loop-i in line-ready c.args.text.now c.args.head.k c.args.lines c.requires.1 l.at l.i l.invariant.0 c.loop-i-test.true
+-- 1 for an entry that is not there, else 0
+one : (c : goal.After-from-new) → c.from-new.result ≡ length (new_of (listing (book_of c.args.head c.args.keys.now c.args.links.now).tree) (inward c.args.head.k c.read_entry.result.0 ∷ []))
+one c = c.from-new.ensures ∙ one-new _ _ _ c.is_there.ensures
 
 pub overflow_add-new : goal.overflow_add-new
-overflow_add-new c = let l = c.loop-i in let t = c.loop-i-test.true in let r = c.read_entry-line in let m = c.new_one-new in let b = counts-low (listing (book_of c.args.head c.args.keys.now c.args.links.now).tree) c.args.text.now c.args.head.k c.args.lines c.requires.1 l.at l.new l.i l.invariant t r.result r.ensures m.result m.ensures in omega arith
+overflow_add-new c = let b = counts-low _ c.args.text.now c.args.head.k c.args.lines c.requires.1 _ _ _ c.loop.invariant (omega arith) c.read_entry.result c.read_entry.ensures _ (one c) in omega arith
 
-pub loop-i-preserved : goal.loop-i-preserved
-loop-i-preserved c = let l = c.loop-i in let t = c.loop-i-test.true in let r = c.read_entry-line in let m = c.new_one-new in counts-on (listing (book_of c.args.head c.args.keys.now c.args.links.now).tree) c.args.text.now c.args.head.k c.args.lines c.requires.1 l.at l.new l.i l.invariant t r.result r.ensures m.result m.ensures
+pub loop-init : goal.loop-init
+loop-init c = counts-first _ c.args.text.now c.args.head.k c.args.lines c.requires.1 _ (reads_first c.args.text.now c.args.head.k c.args.lines c.requires.1 _ c.first_entry-rest.ensures)
+
+pub loop-preserved : goal.loop-preserved
+loop-preserved c = counts-on _ c.args.text.now c.args.head.k c.args.lines c.requires.1 _ _ _ c.loop.invariant (omega arith) c.read_entry.result c.read_entry.ensures _ (one c)
