@@ -1,4 +1,5 @@
 // A new leaf put into a tree, and the upward check along its path.
+// The tables go apart, as they are lent: of one struct of `&mut` tables each contract would have to say that they are the same tables again.
 ghost use Rattle.std.specs.Prelude.{◌≡◌, ◌<◌, length};
 ghost use Rattle.cells.specs.Slots.{Room};
 ghost use Rattle.mend.specs.Lists.{Blank, Kept};

@@ -1,9 +1,11 @@
 // One entry taken out of a tree.
+// The tables go apart, as they are lent: of one struct of `&mut` tables each contract would have to say that they are the same tables again.
 ghost use Rattle.std.specs.Prelude.{◌≡◌, ◌<◌, length, take};
 ghost use Rattle.cells.specs.Slots.{numbers_of, Room};
 ghost use Rattle.mend.specs.Lists.{Blank, Kept};
 ghost use Rattle.alter.specs.Strikes.{Strikable, StrikableOn, StruckOut, StruckOn};
 
+use cells::pool::Pool;
 use mend::lists::Lists;
 use model::{Entry, Shape};
 use seek::side::Side;
@@ -72,7 +74,12 @@ pub fn replace(
         };
     }
     let next = cells::order::next_cut(shape, cut);
-    let heir = seek::search::seek(keys, links, shape, side, cut, child, next);
+    let pool = Pool {
+        shape,
+        keys: &*keys,
+        links: &*links,
+    };
+    let heir = seek::search::seek(&pool, side, cut, child, next);
     let numbers = cells::slot::entry_at(keys, shape, heir);
     cells::slot::put_entry(keys, shape, s, numbers);
     strike_on(keys, links, shape, cut, s, side, numbers, lists)

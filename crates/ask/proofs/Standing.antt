@@ -68,9 +68,6 @@ module _ (S : Shape) (ks : List ℤ) (ls : List ℕ) (s c most : ℕ) (m : Room 
   pub keyed-here : Keyed S.k (length ks) s
   keyed-here = keyed-in S (length ks) (length ls) s m ne pooled
 
-  pub low-here : s ≤ 4096
-  low-here = let a = pooled in let b = m.c_high in omega arith
-
   pub standing-left : (c' : ℕ) → Deeper S.k c c' → Standing S.k ks ls (left_at ls s) c' most
   standing-left c' d = record { tree = (top S.k ks ls s c ne st.tree st.stands).l; stands = stands-left S.k ks ls s c ne st.tree st.stands c' d; few = let a = many S.k ks ls s c ne st.tree st.stands in let b = st.few in omega arith }
 

@@ -7,15 +7,13 @@ use native.Mathlib.Omega.{arith}
 use native.Mathlib.Nat.{zero-mod}
 use lib.IntN.{ℤ}
 use Rattle.model.specs.Entry.{cut_field, cmp}
-use Rattle.model.specs.declared.Shape.{Shape}
 use Rattle.model.proofs.Orders.{flip, cmp-flip}
 use Rattle.cells.specs.Orders as orders
-use Rattle.cells.specs.Slots.{numbers_of, Room, SlotsCompared}
+use Rattle.cells.specs.Slots.{numbers_of, SlotsCompared}
 use Rattle.std.specs.declared.cmp.Ordering.{Ordering as Order}
 use Rattle.std.specs.declared.cmp.Ordering.TheVariants as told
-use Rattle.std.proofs.Common.{Option, None, Some}
-use Rattle.ask.specs.Nearest.{Bettered, Held, Pooled}
-use Rattle.ask.proofs.Walks.{keyed-in}
+use Rattle.std.proofs.Common.{Option, Some}
+use Rattle.ask.specs.Nearest.{Bettered, Pooled}
 use Rattle.ask.specs.declared.near.Best.{Best}
 
 pub less_other : (o : Order) → o ≡ told.Less → ¬ (o ≡ told.Greater)
@@ -36,10 +34,6 @@ module _ (K : ℕ) (ks : List ℤ) (b : Best) (s d : ℕ) (o : Order) (low : 1 �
   pub tie-yields : o ≡ told.Greater → d ≤ b.distance → Bettered K ks (Some b) s d (record { slot = s; distance = d })
   tie-yields g h = inr (record { is = refl; near = h; tie = λ e l. (let x : told.Greater ≡ told.Less = sym g ∙ listed ∙ ap orders.named l in let y : ◌≡◌ {A = ℕ} 0 1 = cc in omega arith) })
 
--- a best of the pool lies in the key table as a comparison asks; what is seen next is one of the pool again
-pub pool-held : (S : Shape) (nk nl : ℕ) (b : Option Best) → Room S nk nl → Pooled S.c b → Held S.k nk b
-pool-held S nk nl None m h = tt
-pool-held S nk nl (Some b) m h = let p = h.0 in let q = h.1 in let c = m.c_high in (omega arith, keyed-in S nk nl b.slot m (λ z. omega arith) q)
-
+-- what is seen next is one of the pool again
 pub pool-kept : (C : ℕ) (b : Option Best) (r : Best) (s : ℕ) → Pooled C b → 1 ≤ s → s ≤ C → (b ≡ Some r) ⊎ (r.slot ≡ s) → Pooled C (Some r)
 pool-kept C b r s h low g w = ⊎_elim (λ e. rw e at h) (λ e. (omega arith, omega arith)) w

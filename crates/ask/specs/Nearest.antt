@@ -7,7 +7,7 @@ use Rattle.model.specs.Tree.{Item, Tree, items, is_less}
 use Rattle.model.specs.declared.Shape.{Shape}
 use Rattle.model.proofs.Nears.{AsGood}
 use Rattle.model.proofs.Trees.{Less}
-use Rattle.cells.specs.Slots.{left_at, right_at, numbers_of, Keyed}
+use Rattle.cells.specs.Slots.{left_at, right_at, numbers_of}
 use Rattle.ask.specs.Standing.{Stands}
 use Rattle.ask.specs.declared.near.Best.{Best}
 use Rattle.ask.specs.declared.near.Turn.{Turn}
@@ -28,12 +28,7 @@ abbrev pub BestOf : ℕ → List ℤ → List ℕ → Entry → List Item → Op
 BestOf K ks steps q held None = held ≡ []
 BestOf K ks steps q held (Some b) = Chosen K ks steps q held b
 
--- the best so far, where there is one, lies in a slot of a key table of n numbers
-abbrev pub Held : ℕ → ℕ → Option Best → Type 0
-Held K n None = Unit {0}
-Held K n (Some b) = (b.slot ≤ 4096) × Keyed K n b.slot
-
--- it lies in one of the pool's C slots
+-- the best so far, where there is one, lies in one of the pool's C slots
 abbrev pub Pooled : ℕ → Option Best → Type 0
 Pooled C None = Unit {0}
 Pooled C (Some b) = (1 ≤ b.slot) × (b.slot ≤ C)

@@ -1,10 +1,12 @@
 // The slots of a box, by a walk that leaves out a side where the cut shuts it out.
 ghost use Rattle.std.specs.Prelude.{◌≡◌, ◌-◌, ◌≤◌, ◌<◌, length};
-ghost use Rattle.cells.specs.Slots.{numbers_of, Keyed, Room};
+ghost use Rattle.model.proofs.Crowd.{InPool};
+ghost use Rattle.cells.specs.Slots.{numbers_of};
 ghost use Rattle.ask.specs.Standing.{Standing};
 ghost use Rattle.ask.specs.Boxes.{is_lower_open, is_upper_open, Weighed, Noted, Collected};
 
-use model::{Bound, Shape};
+use cells::pool::Pool;
+use model::Bound;
 
 // Whether a bound can hold a number that is not above x.
 #[tactic(auto, using(gauge::proofs::Boxes::le_back), unfolding(crate::specs::Boxes::is_lower_open))]
@@ -51,15 +53,14 @@ pub fn weigh(part: &[i64], cut: usize, bounds: [Bound; 4]) -> Sides
 }
 
 // The entry in a slot weighed.
-pub fn weigh_slot(keys: &[i64], shape: Shape, s: usize, cut: usize, bounds: [Bound; 4]) -> Sides
-    requires cut_lt_k { (cut < shape.k) × ((shape.k ≤ 4) × (s ≤ 4096)) }
-    requires keyed { Keyed shape.k (length keys.now) s }
-    ensures { Weighed bounds (numbers_of shape.k keys.now s) cut result }
+fn weigh_slot(pool: &Pool<'_>, s: usize, cut: usize, bounds: [Bound; 4]) -> Sides
+    requires { (cut < pool.now.shape.k) × InPool pool.now.shape.c s }
+    ensures { Weighed bounds (numbers_of pool.now.shape.k pool.now.keys.now s) cut result }
 {
-    weigh(cells::slot::numbers(keys, shape, s), cut, bounds)
+    weigh(cells::slot::numbers(pool.keys, pool.shape, s), cut, bounds)
 }
 
-// Notes a slot at a place where it is one of the box; returns the place behind. The flag is what a box says of an entry: no Option of a slot is at hand.
+// Notes a slot at a place where it is one of the box; returns the place behind. The choice has a function of its own, since a fact is lost where its branches join before the next call.
 pub fn note(wanted: bool, s: usize, slots: &mut [usize], at: usize) -> usize
     requires { at < length slots.old }
     ensures { Noted wanted s slots.old slots.new at result }
@@ -73,33 +74,31 @@ pub fn note(wanted: bool, s: usize, slots: &mut [usize], at: usize) -> usize
 
 // Notes the slots of the box in the tree at s from `at` on, in the tree's order; returns the place behind them.
 pub fn collect(
-    shape: Shape,
+    pool: &Pool<'_>,
     s: usize,
     cut: usize,
     bounds: [Bound; 4],
-    keys: &[i64],
-    links: &[usize],
     slots: &mut [usize],
     at: usize,
 ) -> usize
-    requires room { Room shape (length keys.now) (length links.now) × (cut < shape.k) }
-    requires at_in_bounds { (at ≤ length slots.old) × Standing shape.k keys.now links.now s cut (length slots.old - at) }
-    ensures { Collected shape.k keys.now links.now s cut bounds slots.old slots.new at result }
+    requires cut_lt_k { cut < pool.now.shape.k }
+    requires at_in_bounds { (at ≤ length slots.old) × Standing pool.now.shape.k pool.now.keys.now pool.now.links.now s cut (length slots.old - at) }
+    ensures { Collected pool.now.shape.k pool.now.keys.now pool.now.links.now s cut bounds slots.old slots.new at result }
 {
     if s == 0 {
         return at;
     }
-    let w = weigh_slot(keys, shape, s, cut, bounds);
-    let next = cells::order::next_cut(shape, cut);
+    let w = weigh_slot(pool, s, cut, bounds);
+    let next = cells::order::next_cut(pool.shape, cut);
     let mut m = at;
     if w.lower {
-        let l = cells::slot::left_of(links, s);
-        m = collect(shape, l, next, bounds, keys, links, slots, at);
+        let l = cells::slot::left_of(pool.links, s);
+        m = collect(pool, l, next, bounds, slots, at);
     }
     let n = note(w.here, s, slots, m);
     if w.upper {
-        let r = cells::slot::right_of(links, s);
-        return collect(shape, r, next, bounds, keys, links, slots, n);
+        let r = cells::slot::right_of(pool.links, s);
+        return collect(pool, r, next, bounds, slots, n);
     }
     n
 }

@@ -3,4 +3,5 @@
 
 pub mod boxes;
 pub mod near;
+pub mod query;
 pub mod walk;

@@ -1,10 +1,12 @@
 // The nearest entry of a tree in lent memory.
-ghost use Rattle.std.specs.Prelude.{ℕ, ◌≤◌, ◌<◌, length, take, get_or};
-ghost use Rattle.cells.specs.Slots.{Keyed, Room, Slot};
+ghost use Rattle.std.specs.Prelude.{ℕ, ◌<◌, take, get_or, None};
+ghost use Rattle.model.proofs.Crowd.{InPool};
 ghost use Rattle.ask.specs.Standing.{Standing};
-ghost use Rattle.ask.specs.Nearest.{Held, Pooled, Bettered, Visited, Turned, Searched};
+ghost use Rattle.ask.specs.Nearest.{Pooled, Bettered, Visited, Turned, Searched};
 
-use model::{Entry, Shape};
+use crate::query::Query;
+use cells::pool::Pool;
+use model::Entry;
 use std::cmp::Ordering;
 
 // The best so far: its slot and its distance.
@@ -23,10 +25,9 @@ pub struct Turn {
 }
 
 // The nearer of the best so far, where there is one, and slot s at distance d; at a tie the first in listing order.
-pub fn better(keys: &[i64], shape: Shape, best: Option<Best>, s: usize, d: u64) -> Best
-    requires le_k { (1 ≤ shape.k) × ((shape.k ≤ 4) × (s ≤ 4096)) }
-    requires keyed { Keyed shape.k (length keys.now) s × Held shape.k (length keys.now) best }
-    ensures { Bettered shape.k keys.now best s d result }
+fn better(pool: &Pool<'_>, best: Option<Best>, s: usize, d: u64) -> Best
+    requires { InPool pool.now.shape.c s × Pooled pool.now.shape.c best }
+    ensures { Bettered pool.now.shape.k pool.now.keys.now best s d result }
 {
     let here = Best {
         slot: s,
@@ -41,50 +42,35 @@ pub fn better(keys: &[i64], shape: Shape, best: Option<Best>, s: usize, d: u64) 
     if d < b.distance {
         return here;
     }
-    match cells::slot::compare_slots(keys, shape, b.slot, s, 0) {
+    match cells::slot::compare_slots(pool.keys, pool.shape, b.slot, s, 0) {
         Ordering::Greater => here,
         Ordering::Less | Ordering::Equal => b,
     }
 }
 
 // The best so far once the entry in slot s is seen.
-pub fn visit(
-    shape: Shape,
-    s: usize,
-    q: Entry,
-    steps: [u64; 4],
-    keys: &[i64],
-    best: Option<Best>,
-) -> Best
-    requires le_k { (1 ≤ shape.k) × ((shape.k ≤ 4) × (s ≤ 4096)) }
-    requires keyed { Keyed shape.k (length keys.now) s × Held shape.k (length keys.now) best }
-    requires by_index { (i : ℕ) → i < shape.k → 0 < get_or steps i 0 }
-    ensures { Visited shape.k keys.now steps (take shape.k q.f) best s result }
+fn visit(query: &Query<'_>, s: usize, best: Option<Best>) -> Best
+    requires { InPool query.now.pool.shape.c s × Pooled query.now.pool.shape.c best }
+    ensures { Visited query.now.pool.shape.k query.now.pool.keys.now query.now.steps (take query.now.pool.shape.k query.now.numbers) best s result }
 {
-    let d = gauge::distance::distance_of(steps, q, cells::slot::numbers(keys, shape, s));
-    better(keys, shape, best, s, d)
+    let pool = &query.pool;
+    let note = Entry { f: query.numbers };
+    let numbers = cells::slot::numbers(pool.keys, pool.shape, s);
+    let d = gauge::distance::distance_of(query.steps, note, numbers);
+    better(pool, best, s, d)
 }
 
 // Where the query lies as seen from the cut field of slot s.
-pub fn turn_at(
-    shape: Shape,
-    s: usize,
-    cut: usize,
-    q: Entry,
-    steps: [u64; 4],
-    keys: &[i64],
-    links: &[usize],
-) -> Turn
-    requires cut_lt_k { (cut < shape.k) × ((shape.k ≤ 4) × (s ≤ 4096)) }
-    requires keyed { Keyed shape.k (length keys.now) s × Slot (length links.now) s }
-    requires by_index { (i : ℕ) → i < shape.k → 0 < get_or steps i 0 }
-    ensures { Turned shape.k keys.now links.now steps (take shape.k q.f) s cut result }
+fn turn_at(query: &Query<'_>, s: usize, cut: usize) -> Turn
+    requires { (cut < query.now.pool.shape.k) × InPool query.now.pool.shape.c s }
+    ensures { Turned query.now.pool.shape.k query.now.pool.keys.now query.now.pool.links.now query.now.steps (take query.now.pool.shape.k query.now.numbers) s cut result }
 {
-    let x = cells::slot::number_at(keys, shape, s, cut);
-    let y = q.f[cut];
-    let edge = gauge::distance::field_distance(steps[cut], y, x);
-    let left = cells::slot::left_of(links, s);
-    let right = cells::slot::right_of(links, s);
+    let pool = &query.pool;
+    let x = cells::slot::number_at(pool.keys, pool.shape, s, cut);
+    let y = query.numbers[cut];
+    let edge = gauge::distance::field_distance(query.steps[cut], y, x);
+    let left = cells::slot::left_of(pool.links, s);
+    let right = cells::slot::right_of(pool.links, s);
     if y < x {
         Turn {
             near: left,
@@ -101,32 +87,36 @@ pub fn turn_at(
 }
 
 // The best of what was found and the tree at s: the query's side first, the other while it can hold one as good.
-pub fn nearest_in(
-    shape: Shape,
-    s: usize,
-    cut: usize,
-    q: Entry,
-    steps: [u64; 4],
-    keys: &[i64],
-    links: &[usize],
-    best: Option<Best>,
-) -> Option<Best>
-    requires room { Room shape (length keys.now) (length links.now) }
-    requires cut_lt_k { (cut < shape.k) × Pooled shape.c best }
-    requires by_index { (i : ℕ) → i < shape.k → 0 < get_or steps i 0 }
-    requires standing { Standing shape.k keys.now links.now s cut shape.c }
-    ensures { Searched shape keys.now links.now steps (take shape.k q.f) s cut best result }
+pub fn nearest_in(query: &Query<'_>, s: usize, cut: usize, best: Option<Best>) -> Option<Best>
+    requires here { (cut < query.now.pool.shape.k) × Pooled query.now.pool.shape.c best }
+    requires standing { Standing query.now.pool.shape.k query.now.pool.keys.now query.now.pool.links.now s cut query.now.pool.shape.c }
+    ensures { Searched query.now.pool.shape query.now.pool.keys.now query.now.pool.links.now query.now.steps (take query.now.pool.shape.k query.now.numbers) s cut best result }
 {
     if s == 0 {
         return best;
     }
-    let here = visit(shape, s, q, steps, keys, best);
-    let turn = turn_at(shape, s, cut, q, steps, keys, links);
-    let next = cells::order::next_cut(shape, cut);
-    let after = nearest_in(shape, turn.near, next, q, steps, keys, links, Some(here));
+    let here = visit(query, s, best);
+    let turn = turn_at(query, s, cut);
+    let next = cells::order::next_cut(query.pool.shape, cut);
+    let after = nearest_in(query, turn.near, next, Some(here));
     if after.is_some_and(|b| b.distance < turn.edge) {
         after
     } else {
-        nearest_in(shape, turn.far, next, q, steps, keys, links, after)
+        nearest_in(query, turn.far, next, after)
     }
+}
+
+// The best of the tree at a root, by steps that are not 0 where they are in use.
+pub fn nearest(pool: &Pool<'_>, root: usize, note: Entry, steps: [u64; 4]) -> Option<Best>
+    requires by_index { (i : ℕ) → i < pool.now.shape.k → 0 < get_or steps i 0 }
+    requires standing { Standing pool.now.shape.k pool.now.keys.now pool.now.links.now root 0 pool.now.shape.c }
+    ensures { Searched pool.now.shape pool.now.keys.now pool.now.links.now steps (take pool.now.shape.k note.f) root 0 None result }
+{
+    let numbers = note.f;
+    let query = Query {
+        pool: *pool,
+        numbers,
+        steps,
+    };
+    nearest_in(&query, root, 0, None)
 }

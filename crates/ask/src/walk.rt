@@ -17,6 +17,7 @@ pub enum Walk {
 }
 
 // From the root down; trusts no root and no link, and reads at most sixteen entries. The cut field tells the way, the others only where it is alike.
+// The documents name this call, so its parameters stay as they are.
 pub fn walk_down(shape: Shape, root: usize, e: Entry, keys: &[i64], links: &[usize]) -> Walk
     requires { Room shape (length keys.now) (length links.now) }
     ensures { result ≡ named (walk read_limit (cell_of shape.k keys.now links.now) shape.c 0 (take shape.k e.f) 0 root) }

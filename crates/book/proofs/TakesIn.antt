@@ -3,12 +3,12 @@ use mathlib.Core.Path.{◌≡◌, refl, sym, ap, subst, ◌∙◌}
 use mathlib.Core.Bool.{Bool, true, false, not}
 use mathlib.Core.Option.{some}
 use mathlib.Core.List.{List, [], ◌∷◌, ◌++◌}
-use Prim.Native.Nat.{ℕ, ◌+◌, ◌≤◌}
+use Prim.Native.Nat.{ℕ, ◌+◌}
 use native.Mathlib.Omega.{arith}
 use lib.Dec.{eqb, ltb}
 use lib.ListN.{length, replicate}
 use lib.IntN.{ℤ}
-use borrow.Author.Tests.{eq-eqb, ne_eqb, ltb-false}
+use borrow.Author.Tests.{eq-eqb, ne_eqb}
 use Rattle.model.specs.Answer.{Row, gate, line_in, plain, refused, outward}
 use Rattle.model.specs.Ask.{new_of}
 use Rattle.model.specs.Book.{Book}
@@ -30,7 +30,6 @@ use Rattle.std.proofs.Common.{Result, Ok, Err}
 use Rattle.text.specs.declared.Broken.{Broken}
 use Rattle.text.specs.declared.title.Title.{Title}
 use Rattle.desk.specs.Changes.{Became}
-use Rattle.weigh.specs.Saved.{Saves}
 use Rattle.reply.specs.Gates.{Gate, told, pooled}
 use Rattle.reply.proofs.Pools.{behind-shut, pool-refuses}
 use Rattle.book.proofs.Written.{Leaves, leaves-shut, leaves-done, rows-past}
@@ -105,18 +104,12 @@ module _ (h : Head) (ks : List ℤ) (ls sc text : List ℕ) (g : Gate) (is : g �
       take-mismatch d x f = take-refuses Mismatch (past-text ∙ gate-on (not (eqb (fields_of_parsed p) h.k)) Mismatch full_row (ap not (ne_eqb (fields_of_parsed p) h.k (λ e. d (sym whole.1.0 ∙ e))))) x f
 
       module _ (same : k ≡ h.k) where
-        pub take-saves : Saves text h.k n
-        take-saves = record { says = subst (λ (x : ℕ). p ≡ saved x (entries_in p)) same whole.1.1.0; many = whole.1.1.1 }
-
         past-fields : gate (rows4s h ks ls sc ++ rows) ≡ gate full_row
         past-fields = past-text ∙ gate-off (not (eqb (fields_of_parsed p) h.k)) Mismatch full_row (ap not (eq-eqb (fields_of_parsed p) h.k (whole.1.0 ∙ same)))
 
         module _ (z : Bool) (zs : z ≡ ltb h.c (h.n + length new)) where
           pub take-full : z ≡ true → (x : Answer) → x ≡ refused h 0 Full → Leaves (take_in h ks ls sc text) x ks ls sc
           take-full t x f = take-refuses Full (past-fields ∙ gate-on (ltb h.c (h.n + length new)) Full [] (sym zs ∙ t)) x f
-
-          pub take-fits : z ≡ false → h.n + length new ≤ h.c
-          take-fits t = ltb-false h.c (h.n + length new) (sym zs ∙ t)
 
           pub take_done : z ≡ false → (r : Head) (ks' : List ℤ) (ls' sc' : List ℕ) (x : Answer) → x ≡ plain Done r → sc' ≡ replicate h.c 0 → Became h ks' ls' (added_all new b) r → Leaves (take_in h ks ls sc text) x ks' ls' sc'
           unfolding take_in

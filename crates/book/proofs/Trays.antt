@@ -1,34 +1,27 @@
 -- A tray as it is called: refused with nothing changed, the place with an item's refusal alone; else every item is worked, and scratch is 0.
 use mathlib.Core.Path.{◌≡◌, refl, sym, ap, ◌∙◌}
 use mathlib.Core.Option.{Option, none, some}
-use mathlib.Core.Bool.{not}
-use mathlib.Core.List.{List, ◌∷◌}
+use mathlib.Core.List.{List}
 use Prim.Native.Nat.{ℕ}
 use native.Mathlib.Omega.{arith}
 use lib.ListN.{length, replicate}
 use lib.IntN.{ℤ}
-use borrow.Author.Tests.{not-false}
 use Rattle.model.specs.Answer.{gate, plain, refused, refused_at}
-use Rattle.model.specs.Gate.{rows3}
 use Rattle.model.specs.Laws.{first_wrong_item, worked_all}
-use Rattle.model.specs.Pool.{book_of, sound}
-use Rattle.model.specs.Tray.{tray, trayed, works}
+use Rattle.model.specs.Pool.{book_of}
+use Rattle.model.specs.Tray.{tray, works}
 use Rattle.model.specs.declared.Answer.{Answer}
 use Rattle.model.specs.declared.Head.{Head}
 use Rattle.model.specs.declared.Outcome.TheVariants.{Done}
 use Rattle.model.specs.declared.Refusal.{Refusal}
-use Rattle.model.specs.declared.Refusal.TheVariants.{Tray}
-use Rattle.model.proofs.Gates.{gate-none}
 use Rattle.model.proofs.Trays.{tray-books}
-use Rattle.weigh.specs.Sounds.{Sound}
 use Rattle.desk.specs.Changes.{Became}
 use Rattle.weigh.specs.Judging.{first_of}
 use Rattle.std.specs.declared.option.Option.{Option as Maybe}
 use Rattle.std.specs.declared.option.Option.TheVariants.{Some, None}
 use Rattle.std.specs.Prelude.{Ok, Err}
-use Rattle.reply.specs.Gates.{Gate, told, fitting, judged, handed}
-use Rattle.reply.proofs.Gates.{told-open, told-shut, room, scratch-fits}
-use Rattle.reply.proofs.Pools.{rows-open}
+use Rattle.reply.specs.Gates.{Gate, told, handed}
+use Rattle.reply.proofs.Gates.{told-open, told-shut}
 use Rattle.book.proofs.Written.{Leaves, leaves_kept, leaves-done}
 
 first_some : (o : Option (ℕ × Refusal)) (p : ℕ) (r : Refusal) → Some (p, r) ≡ first_of o → o ≡ some (p, r)
@@ -48,15 +41,6 @@ module _ (h : Head) (ks : List ℤ) (ls sc : List ℕ) (xs : List ℤ) (g : Gate
   module _ (o : g ≡ Ok tt) where
     opened : gate (handed h ks ls (length sc) xs) ≡ none
     opened = told-open (gate (handed h ks ls (length sc) xs)) (sym is ∙ o)
-
-    sizes-open : gate (rows3 h.k h.c (fitting h.k h.c (length ks) (length ls) (length sc))) ≡ none
-    sizes-open = rows-open (rows3 h.k h.c (fitting h.k h.c (length ks) (length ls) (length sc))) ((not (trayed h.k xs), Tray) ∷ judged h ks ls) opened
-
-    pub tray-sound : Sound h ks ls
-    tray-sound = record { room = room h.k h.c (length ks) (length ls) (length sc) (Ok tt) (sym (ap told sizes-open)) refl; good = not-false (sound h ks ls) (gate-none (handed h ks ls (length sc) xs) opened).1.1.1.1.0 }
-
-    pub tray-scratch : length sc ≡ h.c
-    tray-scratch = scratch-fits h.k h.c (length ks) (length ls) (length sc) sizes-open
 
     module _ (w : Maybe (ℕ × Refusal)) (ws : w ≡ first_of (first_wrong_item h.c 1 (works h.k xs) (book_of h ks ls))) where
       pub tray-wrong : (p : ℕ) (r : Refusal) → w ≡ Some (p, r) → (x : Answer) → x ≡ refused_at h p r → Leaves (tray h ks ls sc xs) x ks ls sc

@@ -4,6 +4,7 @@ ghost use Rattle.model.specs.Tray as trays;
 
 use model::{Answer, Head, Outcome};
 use reply::{answer, gate};
+use weigh::known::Known;
 
 // Every item is judged before the first cell changes, so a refused tray has written nothing.
 pub fn tray(
@@ -21,7 +22,7 @@ pub fn tray(
     if let Err(why) = gate::tray(head, keys, links, scratch.len(), items) {
         return answer::refused(head, why);
     }
-    if let Some((place, why)) = weigh::judging::first_wrong(head, keys, links, items) {
+    if let Some((place, why)) = weigh::judging::first_wrong(&Known { head, keys, links }, items) {
         return answer::refused_at(head, place, why);
     }
     scratch.fill(0);

@@ -5,9 +5,11 @@ ghost use Rattle.std.specs.Prelude.{◌≡◌};
 ghost use Rattle.model.specs.Calls as calls;
 
 use ask::walk::Walk;
+use cells::pool::Pool;
 use model::{Answer, Bound, Entry, Head, Outcome, Refusal, Shape};
 use reply::{answer, gate};
 use text::{Broken, Title};
+use weigh::known::Known;
 
 mod batch; // batch.rt: many adds and strikes in one call
 
@@ -50,7 +52,7 @@ pub fn count(head: Head, keys: &[i64], links: &[usize], bounds: [Bound; 4]) -> A
     if let Err(why) = gate::pool(head, keys, links, head.c) {
         return answer::refused(head, why);
     }
-    let n = sheet::spare::count(head, keys, links, bounds);
+    let n = sheet::spare::count(&Known { head, keys, links }, bounds);
     answer::counted(head, n)
 }
 
@@ -68,7 +70,7 @@ pub fn list(
     if let Err(why) = gate::pool(head, keys, links, head.c) {
         return answer::refused(head, why);
     }
-    match sheet::spare::list(head, keys, links, bounds, room) {
+    match sheet::spare::list(&Known { head, keys, links }, bounds, room) {
         Ok(count) => answer::counted(head, count),
         Err(_) => answer::refused(head, Refusal::Room),
     }
@@ -78,28 +80,19 @@ pub fn list(
 pub fn nearest(head: Head, keys: &[i64], links: &[usize], query: Entry, steps: [u64; 4]) -> Answer
     ensures { result ≡ (calls.near head keys.now links.now query steps).answer }
 {
-    let k = head.k;
-    let c = head.c;
-    if let Err(why) = gate::pool(head, keys, links, c) {
+    if let Err(why) = gate::pool(head, keys, links, head.c) {
         return answer::refused(head, why);
     }
-    if weigh::step::zero_step(steps, k) {
+    if weigh::step::zero_step(steps, head.k) {
         return answer::refused(head, Refusal::Step);
     }
-    let found = ask::near::nearest_in(
-        Shape { k, c },
-        head.root,
-        0,
-        query,
-        steps,
-        keys,
-        links,
-        None,
-    );
+    let shape = Shape::from(head);
+    let pool = Pool { shape, keys, links };
+    let found = ask::near::nearest(&pool, head.root, query, steps);
     let Some(b) = found else {
         return answer::plain(Outcome::Absent, head);
     };
-    let e = cells::slot::entry_at(keys, Shape { k, c }, b.slot);
+    let e = cells::slot::entry_at(keys, shape, b.slot);
     answer::close(head, e, b.slot, b.distance)
 }
 
@@ -119,7 +112,7 @@ pub fn add(
     if let Err(why) = gate::pool(head, keys, links, scratch.len()) {
         return answer::refused(head, why);
     }
-    if weigh::pool::is_there(head, keys, links, entry) {
+    if weigh::pool::is_there(&Known { head, keys, links }, entry) {
         return answer::refused(head, Refusal::Present);
     }
     if head.n == head.c {
@@ -146,7 +139,7 @@ pub fn strike(
     if let Err(why) = gate::pool(head, keys, links, scratch.len()) {
         return answer::refused(head, why);
     }
-    if !weigh::pool::is_there(head, keys, links, entry) {
+    if !weigh::pool::is_there(&Known { head, keys, links }, entry) {
         return answer::refused(head, Refusal::Missing);
     }
     scratch.fill(0);
@@ -162,7 +155,7 @@ pub fn save(head: Head, keys: &[i64], links: &[usize], room: &mut [u8]) -> Answe
     if let Err(why) = gate::pool(head, keys, links, head.c) {
         return answer::refused(head, why);
     }
-    match sheet::spare::save(head, keys, links, room) {
+    match sheet::spare::save(&Known { head, keys, links }, room) {
         Some(bytes) => answer::wrote(head, bytes),
         None => answer::refused(head, Refusal::Room),
     }
@@ -196,7 +189,7 @@ pub fn take_in(
             if fields != k {
                 return answer::refused(head, Refusal::Mismatch);
             }
-            if weigh::lines::too_many(head, keys, links, text, lines) {
+            if weigh::lines::too_many(&Known { head, keys, links }, text, lines) {
                 return answer::refused(head, Refusal::Full);
             }
             scratch.fill(0);

@@ -1,27 +1,19 @@
 // A subtree of a few slots, linked directly.
-ghost use Rattle.std.specs.Prelude.{[], ◌∷◌, ◌≤◌, ◌<◌, length};
+// The tables go apart, as they are lent: of one struct of `&mut` tables each contract would have to say that they are the same tables again.
+ghost use Rattle.std.specs.Prelude.{[], ◌∷◌, ◌≤◌, length};
 ghost use Rattle.cells.specs.Slots.{Room};
 ghost use Rattle.build.specs.Rebuilding.{Chosen, Rebuilt};
 
 use cells::slot::{either, put_links};
-use model::Shape;
-use rank::merge::behind;
-use rank::three::in_rank;
+use rank::key::SuperKey;
 
 // Two slots rebuilt: the higher is the root, the lower its left child.
-pub fn rebuild_two(
-    keys: &[i64],
-    links: &mut [usize],
-    shape: Shape,
-    cut: usize,
-    a: usize,
-    b: usize,
-) -> usize
-    requires room { Room shape (length keys.now) (length links.old) × (cut < shape.k) }
-    requires chosen { Chosen shape.c (a ∷ b ∷ []) }
-    ensures { Rebuilt shape.k keys.now cut links.old links.new (a ∷ b ∷ []) result }
+pub fn rebuild_two(key: &SuperKey<'_>, links: &mut [usize], a: usize, b: usize) -> usize
+    requires room { Room key.now.shape (length key.now.keys.now) (length links.old) }
+    requires chosen { Chosen key.now.shape.c (a ∷ b ∷ []) }
+    ensures { Rebuilt key.now.shape.k key.now.keys.now key.now.cut links.old links.new (a ∷ b ∷ []) result }
 {
-    let turned = behind(keys, shape, cut, a, b);
+    let turned = key.behind(a, b);
     let low = either(turned, a, b);
     let high = either(turned, b, a);
     put_links(links, low, 0, 0, 1);
@@ -30,20 +22,12 @@ pub fn rebuild_two(
 }
 
 // Three slots rebuilt: two leaves under the middle one.
-pub fn rebuild_three(
-    keys: &[i64],
-    links: &mut [usize],
-    shape: Shape,
-    cut: usize,
-    a: usize,
-    b: usize,
-    c: usize,
-) -> usize
-    requires room { Room shape (length keys.now) (length links.old) × (cut < shape.k) }
-    requires chosen { Chosen shape.c (a ∷ b ∷ c ∷ []) }
-    ensures { Rebuilt shape.k keys.now cut links.old links.new (a ∷ b ∷ c ∷ []) result }
+pub fn rebuild_three(key: &SuperKey<'_>, links: &mut [usize], a: usize, b: usize, c: usize) -> usize
+    requires room { Room key.now.shape (length key.now.keys.now) (length links.old) }
+    requires chosen { Chosen key.now.shape.c (a ∷ b ∷ c ∷ []) }
+    ensures { Rebuilt key.now.shape.k key.now.keys.now key.now.cut links.old links.new (a ∷ b ∷ c ∷ []) result }
 {
-    let three = in_rank(keys, shape, cut, a, b, c);
+    let three = key.in_rank(a, b, c);
     put_links(links, three.low, 0, 0, 1);
     put_links(links, three.high, 0, 0, 1);
     put_links(links, three.middle, three.low, three.high, 2);
@@ -51,16 +35,10 @@ pub fn rebuild_three(
 }
 
 // At most three slots rebuilt.
-pub fn rebuild_few(
-    keys: &[i64],
-    links: &mut [usize],
-    shape: Shape,
-    cut: usize,
-    slots: &[usize],
-) -> usize
-    requires room { Room shape (length keys.now) (length links.old) × (cut < shape.k) }
-    requires chosen { Chosen shape.c slots.now × (length slots.now ≤ 3) }
-    ensures { Rebuilt shape.k keys.now cut links.old links.new slots.now result }
+pub fn rebuild_few(key: &SuperKey<'_>, links: &mut [usize], slots: &[usize]) -> usize
+    requires room { Room key.now.shape (length key.now.keys.now) (length links.old) }
+    requires chosen { Chosen key.now.shape.c slots.now × (length slots.now ≤ 3) }
+    ensures { Rebuilt key.now.shape.k key.now.keys.now key.now.cut links.old links.new slots.now result }
 {
     match slots {
         [] => 0,
@@ -68,7 +46,7 @@ pub fn rebuild_few(
             put_links(links, a, 0, 0, 1);
             a
         }
-        &[a, b] => rebuild_two(keys, links, shape, cut, a, b),
-        &[a, b, c, ..] => rebuild_three(keys, links, shape, cut, a, b, c),
+        &[a, b] => rebuild_two(key, links, a, b),
+        &[a, b, c, ..] => rebuild_three(key, links, a, b, c),
     }
 }

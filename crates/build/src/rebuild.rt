@@ -1,11 +1,12 @@
 // A subtree rebuilt in place over its slots.
+// The tables go apart, as they are lent: of one struct of `&mut` tables each contract would have to say that they are the same tables again.
 ghost use Rattle.std.specs.Prelude.{◌≡◌, suc, max, ◌^◌, ◌*◌, ◌≤◌, ◌<◌, length};
 ghost use Rattle.cells.specs.Slots.{tall, Slot, Room};
 ghost use Rattle.cells.specs.Memory.{Put};
 ghost use Rattle.build.specs.Rebuilding.{Chosen, Rebuilt};
 
 use cells::slot::{height_of, put_links};
-use model::Shape;
+use rank::key::SuperKey;
 
 // Links s to l and r, with the height that follows.
 pub fn refresh(links: &mut [usize], s: usize, l: usize, r: usize)
@@ -19,34 +20,30 @@ pub fn refresh(links: &mut [usize], s: usize, l: usize, r: usize)
 
 // Ranks the slots, takes the middle one for the root and rebuilds both sides one cut deeper; returns the root. A few are linked directly.
 pub fn rebuild(
-    keys: &[i64],
+    key: &SuperKey<'_>,
     links: &mut [usize],
-    shape: Shape,
-    cut: usize,
     slots: &mut [usize],
     spare: &mut [usize],
 ) -> usize
-    requires room { Room shape (length keys.now) (length links.old) × (cut < shape.k) }
-    requires chosen { Chosen shape.c slots.old × (length spare.old ≡ length slots.old) }
-    ensures { Rebuilt shape.k keys.now cut links.old links.new slots.old result }
+    requires room { Room key.now.shape (length key.now.keys.now) (length links.old) }
+    requires chosen { Chosen key.now.shape.c slots.old × (length spare.old ≡ length slots.old) }
+    ensures { Rebuilt key.now.shape.k key.now.keys.now key.now.cut links.old links.new slots.old result }
 {
     let n = slots.len();
     if n < 4 {
-        crate::few::rebuild_few(keys, links, shape, cut, slots)
+        crate::few::rebuild_few(key, links, slots)
     } else {
-        rank::merge::rank(keys, shape, cut, slots, spare);
+        key.rank(slots, spare);
         let m = n / 2;
         let s = slots[m];
-        let next = cells::order::next_cut(shape, cut);
-        let l = rebuild(keys, links, shape, next, &mut slots[..m], &mut spare[..m]);
-        let r = rebuild(
-            keys,
-            links,
-            shape,
-            next,
-            &mut slots[m + 1..],
-            &mut spare[m + 1..],
-        );
+        let cut = cells::order::next_cut(key.shape, key.cut);
+        let next = SuperKey {
+            keys: key.keys,
+            shape: key.shape,
+            cut,
+        };
+        let l = rebuild(&next, links, &mut slots[..m], &mut spare[..m]);
+        let r = rebuild(&next, links, &mut slots[m + 1..], &mut spare[m + 1..]);
         refresh(links, s, l, r);
         s
     }

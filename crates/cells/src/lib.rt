@@ -2,4 +2,5 @@
 #![tactic(auto)]
 
 pub mod order;
+pub mod pool;
 pub mod slot;

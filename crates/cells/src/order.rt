@@ -24,7 +24,7 @@ pub fn compare(a: &[i64], b: &[i64], cut: usize) -> Ordering
 
 // The cut field one level deeper.
 pub fn next_cut(shape: Shape, cut: usize) -> usize
-    requires { (cut < shape.k) × (shape.k ≤ 4) }
+    requires { cut < shape.k }
     ensures { Deeper shape.k cut result }
 {
     let next = cut + 1;

@@ -1,48 +1,25 @@
 -- A fresh pool: numbers cleared and slots chained are the image of a fresh book.
 use mathlib.Core.Path.{◌≡◌, refl, sym, ap, ◌∙◌}
 use mathlib.Core.Logic.{◌⊎◌, inl, inr}
-use mathlib.Core.List.{List, [], ◌∷◌, ◌++◌, append-nil}
+use mathlib.Core.List.{List, [], ◌∷◌}
 use Prim.Native.Nat.{ℕ, zero, suc, ◌+◌, ◌*◌, ◌≤◌, ◌<◌}
 use native.Mathlib.Decide.{dec_le}
 use native.Mathlib.Nat.{mul-le-mul_left}
-use native.Mathlib.Numerals.{add-one}
 use native.Mathlib.Omega.{arith}
-use lib.ListN.{length, get_or, set, take, drop, replicate, length-append, length-drop, length-replicate}
-use lib.Seq.{drop-cons, set_at}
+use lib.ListN.{length, take, drop, replicate, length-replicate}
 use lib.IntN.{ℤ, pos}
 use borrow.Author.Tests.{eq-eqb, ne_eqb}
 use Rattle.model.specs.Book.{Cell, up_from, first, behind, fresh, cell_in, cell, links, keys}
 use Rattle.model.specs.Pool.{cell_of}
 use Rattle.model.proofs.Crowd.{InPool}
 use Rattle.model.proofs.Sounds.{image-of}
-use Rattle.cells.specs.Slots.{left_at, address_of, numbers_of, Slot}
+use Rattle.cells.specs.Slots.{left_at, address_of, numbers_of}
 use Rattle.cells.specs.Memory.{Put}
 use Rattle.cells.proofs.Slots.{slot-end}
 use Rattle.cells.proofs.Reps.{link-cells}
 use Rattle.desk.specs.Fresh.{Chained}
 
--- clearing, a number at a time
-pub clear-more : (l ks : List ℤ) (i : ℕ) → i < length l → ks ≡ replicate i (pos 0) ++ drop i l → set ks i (pos 0) ≡ replicate (i + 1) (pos 0) ++ drop (i + 1) l
-clear-more l ks i h e = rw (e, drop-cons l i (pos 0), add-one) (set_at (replicate i (pos 0)) (get_or l i (pos 0)) (drop (suc i) l) (pos 0) i (length-replicate i (pos 0)) ∙ last i (drop (suc i) l))
-  where
-    last : (n : ℕ) (r : List ℤ) → replicate n (pos 0) ++ (pos 0 ∷ r) ≡ replicate (suc n) (pos 0) ++ r
-    last zero r = refl
-    last (suc n) r = ap (λ x. pos 0 ∷ x) (last n r)
-
-pub clear-long : (l ks : List ℤ) (i : ℕ) → i ≤ length l → ks ≡ replicate i (pos 0) ++ drop i l → length ks ≡ length l
-clear-long l ks i h e = ap length e ∙ rw (length-append, length-replicate, length-drop) (omega arith)
-
-pub clear-end : (l ks : List ℤ) (i : ℕ) → i ≡ length l → ks ≡ replicate i (pos 0) ++ drop i l → ks ≡ replicate (length l) (pos 0)
-clear-end l ks i h e = e ∙ rw (h, gone l) (append-nil (replicate (length l) (pos 0)))
-  where
-    gone : (x : List ℤ) → drop (length x) x ≡ []
-    gone [] = refl
-    gone (y ∷ x) = gone x
-
 -- chaining, a slot at a time
-pub chain-none : (ls : List ℕ) (C : ℕ) → 1 ≤ C → Chained ls C 0
-chain-none ls C h = record { next = λ s a b c. absurd (omega arith); last = λ a. absurd (omega arith); right = λ s a b. absurd (omega arith); high = λ s a b. absurd (omega arith) }
-
 pub chain_more : (ls ls' : List ℕ) (C m n : ℕ) → m < C → Chained ls C m → Put ls ls' (m + 1) n 0 0 → (m + 1 ≡ C → n ≡ 0) → (¬ (m + 1 ≡ C) → n ≡ m + 1 + 1) → Chained ls' C (m + 1)
 chain_more ls ls' C m n h c p e f =
     record {
@@ -62,10 +39,6 @@ chain_more ls ls' C m n h c p e f =
         away : (s : ℕ) → s ≤ m → Rattle.cells.specs.Memory.In s ((m + 1) ∷ []) → ⊥
         away s z (inr h) = elim h [ ]
         away s z (inl q) = omega arith
-
--- the slot that is written, and the link that it is given
-pub slot_next : (ls : List ℕ) (C s : ℕ) → s < C → length ls ≡ 3 * C → Slot (length ls) (s + 1)
-slot_next ls C s h e = record { some = omega arith; fits = rw e (omega arith) }
 
 pub chained-next : (C s n : ℕ) → ((s + 1 ≡ C) × (n ≡ 0)) ⊎ ((¬ (s + 1 ≡ C)) × (n ≡ s + 1 + 1)) → (s + 1 ≡ C → n ≡ 0) × (¬ (s + 1 ≡ C) → n ≡ s + 1 + 1)
 chained-next C s n (inl w) = ((λ e. w.1), λ o. absurd (o w.0))

@@ -1,4 +1,5 @@
 // One entry added or struck in a pool that is known to be sound, so that a call which changes many judges it once.
+// The tables go apart, as they are lent: of one struct of `&mut` tables each contract would have to say that they are the same tables again.
 ghost use Rattle.std.specs.Prelude.{◌≡◌, true, false, ◌<◌, length};
 ghost use Rattle.mend.specs.Lists.{Blank, Kept};
 ghost use Rattle.model.specs.Answer.{inward};

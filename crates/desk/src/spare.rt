@@ -1,4 +1,5 @@
 // The list of slots that a call needs beside what it is lent.
+// The tables go apart, as they are lent: of one struct of `&mut` tables each contract would have to say that they are the same tables again.
 ghost use Rattle.std.specs.Prelude.{◌≡◌, true, false, ◌+◌, ◌≤◌, ◌<◌, length, replicate};
 ghost use Rattle.std.proofs.Math.Option.{none};
 ghost use Rattle.model.specs.Answer.{inward};

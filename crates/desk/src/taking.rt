@@ -1,4 +1,5 @@
 // The entries of a text that is known to be a saved book, each added where it is not yet there.
+// The tables go apart, as they are lent: of one struct of `&mut` tables each contract would have to say that they are the same tables again.
 ghost use Rattle.std.specs.Prelude.{◌≡◌, false, ◌∷◌, [], ◌+◌, ◌≤◌, ◌<◌, length};
 ghost use Rattle.mend.specs.Lists.{Blank, Kept};
 ghost use Rattle.model.specs.Answer.{inward};
@@ -15,6 +16,7 @@ ghost use Rattle.desk.specs.Changes.{Became};
 use crate::change::add_one;
 use mend::lists::Lists;
 use model::{Entry, Head};
+use weigh::known::Known;
 use weigh::pool::is_there;
 
 // Sees to it that an entry is there; returns the head.
@@ -31,7 +33,7 @@ pub fn put_in(
     ensures pool { Became head keys.new links.new (added_each (inward head.k entry ∷ []) (book_of head keys.old links.old)) result }
     ensures lists { Kept head.c lists.old lists.new }
 {
-    if is_there(head, keys, links, entry) {
+    if is_there(&Known { head, keys, links }, entry) {
         return head;
     }
     add_one(head, keys, links, lists, entry)

@@ -1,4 +1,5 @@
 // The items of a tray worked in turn, where none of them is wrong.
+// The tables go apart, as they are lent: of one struct of `&mut` tables each contract would have to say that they are the same tables again.
 ghost use Rattle.std.specs.Prelude.{◌≡◌, ◌+◌, ◌*◌, ◌≤◌, length};
 ghost use Rattle.std.proofs.Math.Option.{none};
 ghost use Rattle.mend.specs.Lists.{Blank, Kept};

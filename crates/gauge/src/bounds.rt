@@ -21,6 +21,7 @@ pub fn within(b: Bound, x: i64) -> bool
 pub fn inside(bounds: [Bound; 4], part: &[i64]) -> bool
     ensures { result ≡ in_box bounds part.now }
 {
+    // in a closure of `all` it is not known that the number fits, and the proof does not close
     for (b, x) in bounds.iter().zip(part) {
         if !within(*b, *x) {
             return false;

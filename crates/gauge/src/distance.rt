@@ -5,7 +5,7 @@ ghost use Rattle.model.specs.Entry.{distance};
 
 use model::Entry;
 
-// The larger less the smaller, exact, by a subtraction that wraps.
+// The larger less the smaller, exact, by a subtraction that wraps, as the paper has it.
 #[tactic(auto, using(std::proofs::lemmas::Int::ints, crate::proofs::Differences::wrapped))]
 pub fn difference_of(a: i64, b: i64) -> u64
     ensures { result ≡ difference a b }
@@ -21,9 +21,7 @@ pub fn field_distance(step: u64, a: i64, b: i64) -> u64
     requires { 0 < step }
     ensures { result ≡ distance_of_field step a b }
 {
-    let apart = difference_of(a, b);
-    let whole = apart / step;
-    if apart % step == 0 { whole } else { whole + 1 }
+    difference_of(a, b).div_ceil(step)
 }
 
 // The greatest over the fields of a part.

@@ -1,4 +1,5 @@
 // The upward check of one entry.
+// The tables go apart, as they are lent: of one struct of `&mut` tables each contract would have to say that they are the same tables again.
 ghost use Rattle.std.specs.Prelude.{◌≡◌, ◌<◌, length};
 ghost use Rattle.cells.specs.Slots.{Room};
 ghost use Rattle.model.specs.Tree.{even};
@@ -7,6 +8,7 @@ ghost use Rattle.mend.specs.Mends.{Mendable, Mended, MendableOn, MendedOn};
 
 use crate::lists::Lists;
 use model::Shape;
+use rank::key::SuperKey;
 use seek::side::Side;
 
 // Whether two heights differ by at most 1.
@@ -41,13 +43,14 @@ pub fn mend(
     if even {
         return s;
     }
+    let key = SuperKey { keys, shape, cut };
     // Three slots are ranked where they are: most rebuilds are of three, and nothing need be copied.
     if let Some(few) = crate::little::three_at(links, s) {
-        return build::few::rebuild_three(keys, links, shape, cut, few.low, few.middle, few.high);
+        return build::few::rebuild_three(&key, links, few.low, few.middle, few.high);
     }
     let n = build::gather::gather(links, s, lists.scratch, 0);
     let slots = &mut lists.scratch[..n];
-    let root = build::rebuild::rebuild(keys, links, shape, cut, slots, &mut lists.spare[..n]);
+    let root = build::rebuild::rebuild(&key, links, slots, &mut lists.spare[..n]);
     slots.fill(0);
     root
 }

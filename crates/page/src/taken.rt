@@ -10,6 +10,7 @@ ghost use Rattle.page.specs.Texts.{SavedIn};
 use crate::pool::put_book;
 use crate::refusal::put_refusal;
 use model::{Answer, Outcome};
+use weigh::known::Known;
 
 // The book, or the refusal.
 pub fn put_answer(answer: Answer, keys: &[i64], links: &[usize], room: &mut [u8]) -> usize
@@ -18,7 +19,10 @@ pub fn put_answer(answer: Answer, keys: &[i64], links: &[usize], room: &mut [u8]
 {
     match answer.outcome {
         Outcome::Found | Outcome::Absent => 0,
-        Outcome::Done => put_book(answer.head, keys, links, room),
+        Outcome::Done => {
+            let head = answer.head;
+            put_book(&Known { head, keys, links }, room)
+        }
         Outcome::Refused(why) => put_refusal(room, why, answer.line),
     }
 }

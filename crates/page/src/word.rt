@@ -1,4 +1,5 @@
 // The pieces of a printed line, each written from a place on; each function returns the place behind what it wrote.
+// The place stays beside the room, as in `print`: with a part of the room in place of both, each call would add up lengths.
 ghost use Rattle.std.specs.Prelude.{◌∷◌, [], ◌++◌, ◌+◌, ◌<◌, ◌≤◌, length};
 ghost use Rattle.model.specs.Show.{cut_is};
 ghost use Rattle.model.specs.Text.{decimal};

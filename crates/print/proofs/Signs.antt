@@ -47,6 +47,3 @@ minus-small (suc n) h = omega arith
 
 pub minus-back : (m : ℕ) → m ≤ 9223372036854775808 → to_z w64 (of_z w64 (minus m)) ≡ minus m
 minus-back m h = back (minus m) (minus-small m h)
-
-pub negative_fits : (m : ℕ) → 1 ≤ m → m ≤ 9223372036854775808 → SFits w64 (negsuc 0 -ℤ to_z w64 (m - 1))
-negative_fits m g h = rw (negative-is m g h) (record { sfits = minus-small m h })

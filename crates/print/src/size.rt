@@ -2,7 +2,7 @@
 ghost use Rattle.std.specs.Prelude.{◌≡◌, ◌+◌, ◌≤◌, nat_abs, length};
 ghost use Rattle.model.specs.Text.{decimal, signed, pairs, title};
 
-// Digits are counted by dividing by ten.
+// Digits are counted by dividing by ten: the loop counts no index, and the definition divides too.
 pub fn decimal_length(n: usize) -> usize
     ensures { result ≡ length (decimal n) }
 {

@@ -14,7 +14,7 @@ pub fn plain(outcome: Outcome, head: Head) -> Answer
     Answer {
         outcome,
         head,
-        entry: Entry { f: [0i64; 4] },
+        entry: Entry::default(),
         slot: 0,
         reads: 0,
         distance: 0,
@@ -32,9 +32,8 @@ pub fn begun(k: usize, c: usize) -> Answer
     let head = Head {
         k,
         c,
-        root: 0,
         free: 1,
-        n: 0,
+        ..Head::default()
     };
     plain(Outcome::Done, head)
 }

@@ -9,7 +9,7 @@ ghost use Rattle.reply.specs.Gates.{told, fitting, judged, pooled, handed};
 
 use model::{Head, Refusal};
 
-// Rows 1 to 3 of the table; a call that is lent no scratch gives its capacity for that length.
+// Rows 1 to 3 of the table; a call that is lent no scratch gives its capacity for that length, so that one gate serves all.
 pub fn sizes(k: usize, c: usize, keys: usize, links: usize, scratch: usize) -> Result<(), Refusal>
     ensures { result ≡ told (gate (rows3 k c (fitting k c keys links scratch))) }
 {

@@ -99,9 +99,6 @@ module _ (K : ℕ) (ks : List ℤ) (ls : List ℕ) (side : Side) (h : ℕ) where
       let n : Item = next (way_of side) t i (items l ++ items r) in
       rw (g.some t e i l r st) (last-join (way_of side) t (item_in K ks best) n P (λ y. Of y (node i l r)) p (next-is-last (way_of side) t st.depth i l r (ordered-true st.depth (node i l r) st.in_order)) (apart (item_in K ks best) n p.there (next_of (way_of side) t i l r)))
 
-  pub better-none : (best s c : ℕ) → s ≡ 0 → Better K ks ls side h best s c best
-  better-none best s c e = record { none = λ z. refl; some = λ t f i l r st. absurd (let a : 1 ≤ i.slot = st.rep.1.some in let b : s ≡ i.slot = st.rep.0 in omega arith) }
-
   -- a level of another cut: the last of the node, of its left side and of its right side
   pub sought-other : (s c c' l r best x : ℕ) → Deeper K c c' → l ≡ left_at ls s → r ≡ right_at ls s → Better K ks ls side h s l c' best → Better K ks ls side h best r c' x → Sought K ks ls side h s c x
   sought-other s c c' l r best x d el er gl gr = record { is = is }

@@ -159,12 +159,6 @@ module _ (K : ℕ) (ks : List ℤ) where
 
 -- the part of the key table that a slot's line is printed from
 module _ (K : ℕ) (ks : List ℤ) (s a : ℕ) (ea : a ≡ address_of K s) where
-  pub line-counted : (n : ℕ) → n ≡ length (pairs 97 (take (a + K - a) (drop a ks))) + 1 → n ≡ length (pairs 97 (numbers_of K ks s)) + 1
-  line-counted n e = e ∙ ap (λ (x : Entry). length (pairs 97 x) + 1) (part_at K ks s a ea)
-
   module _ (room : List ℕ) (to : ℕ) where
     pub line-ready : K ≤ 4 → InTable K (length ks) s → to + length (line_at K ks s) ≤ length room → (to + length (pairs 97 (take (a + K - a) (drop a ks)) ++ (10 ∷ [])) ≤ length room) × (length (take (a + K - a) (drop a ks)) ≤ 4)
     line-ready k t h = subst (λ (x : Entry). (to + length (pairs 97 x ++ (10 ∷ [])) ≤ length room) × (length x ≤ 4)) (sym (part_at K ks s a ea)) (h, (let n = numbers-long K ks s t.keyed in omega arith))
-
-    pub line-put : (room' : List ℕ) (r : ℕ) → Puts room to (pairs 97 (take (a + K - a) (drop a ks)) ++ (10 ∷ [])) room' r → Puts room to (line_at K ks s) room' r
-    line-put room' r p = subst (λ (x : Entry). Puts room to (pairs 97 x ++ (10 ∷ [])) room' r) (part_at K ks s a ea) p

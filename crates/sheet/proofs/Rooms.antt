@@ -1,16 +1,16 @@
 -- Entries written one behind another: what is left to write gives the whole.
 use mathlib.Core.Path.{◌≡◌, refl, sym, ◌∙◌}
-use mathlib.Core.List.{List, [], ◌∷◌}
-use Prim.Native.Nat.{ℕ, zero, suc, ◌+◌, ◌-◌, ◌*◌, ◌≤◌, ◌<◌}
+use mathlib.Core.List.{List}
+use Prim.Native.Nat.{ℕ, suc, ◌+◌, ◌-◌, ◌*◌, ◌<◌}
 use native.Mathlib.Omega.{arith}
-use native.Mathlib.Nat.{mul-suc, mul-zero, mul-le-mul_left}
+use native.Mathlib.Nat.{mul-suc}
 use native.Mathlib.Numerals.{add-one}
 use lib.ListN.{length, get_or, take, drop}
 use lib.Seq.{sets, drop-cons}
 use lib.IntN.{ℤ}
 use Rattle.model.specs.Answer.{outward}
 use Rattle.model.specs.declared.Entry.{Entry as Four}
-use Rattle.cells.specs.Slots.{numbers_of, address_of, Keyed}
+use Rattle.cells.specs.Slots.{numbers_of, address_of}
 use Rattle.cells.specs.Memory.{Wrote}
 use Rattle.cells.proofs.Slots.{numbers-long}
 use Rattle.cells.proofs.Writes.{sets-append}
@@ -18,9 +18,6 @@ use Rattle.rank.specs.Ranking.{InTables}
 use Rattle.rank.proofs.Merging.{row_in}
 use Rattle.weigh.proofs.Inward.{back_in}
 use Rattle.sheet.specs.Listing.{numbers_in}
-
-pub rooms-none : (K : ℕ) (ks : List ℤ) (ss : List ℕ) (room : List ℤ) → sets room (K * 0) (numbers_in K ks (drop 0 ss)) ≡ sets room 0 (numbers_in K ks ss)
-rooms-none K ks ss room = rw mul-zero refl
 
 pub rooms-on : (K : ℕ) (ks : List ℤ) (ss : List ℕ) (room room' whole : List ℤ) (i : ℕ) (e : Four) → InTables K (length ks) ss → i < length ss → e ≡ outward (numbers_of K ks (get_or ss i 0)) → Wrote K room room' (i + 1) (take K e.f)
     → sets room (K * i) (numbers_in K ks (drop i ss)) ≡ whole → sets room' (K * (i + 1)) (numbers_in K ks (drop (i + 1) ss)) ≡ whole
@@ -32,16 +29,3 @@ rooms-on K ks ss room room' whole i e t h q w f =
     let a : room' ≡ sets room (K * i) (numbers_of K ks s) = w.exactly ∙ (let m : i + 1 - 1 ≡ i = omega arith in rw (m, z) refl) in
     let p : K * (i + 1) ≡ K * i + length (numbers_of K ks s) = rw (add-one, mul-suc, n) (omega arith) in
     rw (a, p, add-one) (sym (sets-append room (K * i) (numbers_of K ks s) (numbers_in K ks (drop (suc i) ss))) ∙ rw (drop-cons ss i 0) at f)
-
-pub rooms-end : (K : ℕ) (ks : List ℤ) (ss : List ℕ) (room whole : List ℤ) (i : ℕ) → length ss ≤ i → sets room (K * i) (numbers_in K ks (drop i ss)) ≡ whole → room ≡ whole
-rooms-end K ks ss room whole i h f = rw (gone ss i h) at f
-  where
-    gone : (x : List ℕ) (j : ℕ) → length x ≤ j → drop j x ≡ []
-    gone [] zero l = refl
-    gone [] (suc j) l = refl
-    gone (y ∷ x) zero l = absurd (omega arith)
-    gone (y ∷ x) (suc j) l = gone x j (omega arith)
-
--- the place of entry i is one of the room's
-pub room-place : (K n m i : ℕ) → i < n → K * n ≤ m → Keyed K m (i + 1)
-room-place K n m i h l = record { some = omega arith; fits = let a : K * (i + 1) ≤ K * n = mul-le-mul_left K (let b : i + 1 ≤ n = omega arith in b) in omega arith }

@@ -1,12 +1,13 @@
 // The entries of a box written to lent room in listing order, K numbers each.
 ghost use Rattle.std.specs.Prelude.{◌≡◌, ◌*◌, ◌≤◌, length};
 ghost use Rattle.std.proofs.lemmas.List.Edits.{sets};
-ghost use Rattle.cells.specs.Slots.{Room};
 ghost use Rattle.ask.specs.Standing.{Standing};
 ghost use Rattle.rank.specs.Ranking.{InTables};
 ghost use Rattle.sheet.specs.Listing.{numbers_in, FilledWith};
 
+use cells::pool::Pool;
 use model::{Bound, Shape};
+use rank::key::SuperKey;
 
 // So many entries that the room does not hold them.
 #[derive(Clone, Copy)]
@@ -28,26 +29,28 @@ pub fn write_entries(keys: &[i64], shape: Shape, slots: &[usize], room: &mut [i6
 
 // Writes the entries of the box in listing order to the room, where they fit; slots and spare are as long as the pool has slots.
 pub fn fill(
-    keys: &[i64],
-    links: &[usize],
-    shape: Shape,
+    pool: &Pool<'_>,
     root: usize,
     bounds: [Bound; 4],
     slots: &mut [usize],
     spare: &mut [usize],
     room: &mut [i64],
 ) -> Result<usize, TooMany>
-    requires room { Room shape (length keys.now) (length links.now) }
-    requires slots_len { (length slots.old ≡ shape.c) × (length spare.old ≡ shape.c) }
-    requires standing { Standing shape.k keys.now links.now root 0 shape.c }
-    ensures { FilledWith shape.k keys.now links.now root bounds room.old room.new result }
+    requires slots_len { (length slots.old ≡ pool.now.shape.c) × (length spare.old ≡ pool.now.shape.c) }
+    requires standing { Standing pool.now.shape.k pool.now.keys.now pool.now.links.now root 0 pool.now.shape.c }
+    ensures { FilledWith pool.now.shape.k pool.now.keys.now pool.now.links.now root bounds room.old room.new result }
 {
-    let n = ask::boxes::collect(shape, root, 0, bounds, keys, links, slots, 0);
-    if room.len() < shape.k * n {
+    let n = ask::boxes::collect(pool, root, 0, bounds, slots, 0);
+    if room.len() < pool.shape.k * n {
         return Err(TooMany { count: n });
     }
     let boxed = &mut slots[..n];
-    rank::merge::rank(keys, shape, 0, boxed, &mut spare[..n]);
-    write_entries(keys, shape, boxed, room);
+    let key = SuperKey {
+        keys: pool.keys,
+        shape: pool.shape,
+        cut: 0,
+    };
+    key.rank(boxed, &mut spare[..n]);
+    write_entries(pool.keys, pool.shape, boxed, room);
     Ok(n)
 }

@@ -1,23 +1,22 @@
 // The text of a book written to lent room: measured first, so that room which is too short is left as it is.
 ghost use Rattle.std.specs.Prelude.{◌≡◌, ◌∷◌, [], ◌++◌, ◌+◌, ◌≤◌, length};
 ghost use Rattle.model.specs.Text.{pairs};
-ghost use Rattle.cells.specs.Slots.{numbers_of, Room};
+ghost use Rattle.cells.specs.Slots.{numbers_of};
 ghost use Rattle.print.specs.Place.{written, Puts};
 ghost use Rattle.ask.specs.Standing.{Standing};
 ghost use Rattle.rank.specs.Ranking.{InTable, InTables};
 ghost use Rattle.sheet.specs.Saving.{text_in, Measured, PrintedWith};
 
+use cells::pool::Pool;
 use model::Shape;
+use rank::key::SuperKey;
 
 // How many bytes the line of a slot has.
 pub fn slot_length(keys: &[i64], shape: Shape, s: usize) -> usize
     requires { (shape.k ≤ 4) × InTable shape.k (length keys.now) s }
     ensures { result ≡ length (pairs 97 (numbers_of shape.k keys.now s)) + 1 }
 {
-    let k = shape.k;
-    let i = cells::slot::address(shape, s);
-    let z = i + k;
-    print::line_length(&keys[i..z])
+    print::line_length(cells::slot::numbers(keys, shape, s))
 }
 
 // The line of a slot written from a place on; returns the place behind it.
@@ -26,10 +25,7 @@ pub fn put_slot(keys: &[i64], shape: Shape, s: usize, room: &mut [u8], at: usize
     requires s_in_bounds { at + length (pairs 97 (numbers_of shape.k keys.now s) ++ (10 ∷ [])) ≤ length room.old }
     ensures { Puts room.old at (pairs 97 (numbers_of shape.k keys.now s) ++ (10 ∷ [])) room.new result }
 {
-    let k = shape.k;
-    let i = cells::slot::address(shape, s);
-    let z = i + k;
-    print::put_line(room, at, &keys[i..z])
+    print::put_line(room, at, cells::slot::numbers(keys, shape, s))
 }
 
 // The length of the text of ranked slots, counted as long as it fits; none where it does not.
@@ -65,23 +61,25 @@ pub fn write_text(keys: &[i64], shape: Shape, slots: &[usize], room: &mut [u8])
 
 // Writes the text of the book to the room, where it fits, and tells its length; slots and spare are as long as the pool has slots.
 pub fn print(
-    keys: &[i64],
-    links: &[usize],
-    shape: Shape,
+    pool: &Pool<'_>,
     root: usize,
     slots: &mut [usize],
     spare: &mut [usize],
     room: &mut [u8],
 ) -> Option<usize>
-    requires room { Room shape (length keys.now) (length links.now) }
-    requires slots_len { (length slots.old ≡ shape.c) × (length spare.old ≡ shape.c) }
-    requires standing { Standing shape.k keys.now links.now root 0 shape.c }
-    ensures { PrintedWith shape.k keys.now links.now root room.old room.new result }
+    requires slots_len { (length slots.old ≡ pool.now.shape.c) × (length spare.old ≡ pool.now.shape.c) }
+    requires standing { Standing pool.now.shape.k pool.now.keys.now pool.now.links.now root 0 pool.now.shape.c }
+    ensures { PrintedWith pool.now.shape.k pool.now.keys.now pool.now.links.now root room.old room.new result }
 {
-    let n = build::gather::gather(links, root, slots, 0);
+    let n = build::gather::gather(pool.links, root, slots, 0);
     let all = &mut slots[..n];
-    rank::merge::rank(keys, shape, 0, all, &mut spare[..n]);
-    let bytes = measure(keys, shape, all, room.len())?;
-    write_text(keys, shape, all, room);
+    let key = SuperKey {
+        keys: pool.keys,
+        shape: pool.shape,
+        cut: 0,
+    };
+    key.rank(all, &mut spare[..n]);
+    let bytes = measure(pool.keys, pool.shape, all, room.len())?;
+    write_text(pool.keys, pool.shape, all, room);
     Some(bytes)
 }

@@ -9,6 +9,7 @@ use std::io;
 use std::io::{Print, Read};
 
 // Reads until the room is full or the input ends; returns how many bytes it put at the front of the room.
+// A read gives as many bytes as it likes, so no iterator can count them.
 fn read_full<R: Read>(reader: &mut R, room: &mut [u8]) -> io::Result<usize>
     ensures within { ReadsAtMost result room.new }
     ensures bytes { IfOk result (λ n. Consumes (R.remaining reader.old) (R.remaining reader.new) (take n room.new)) }

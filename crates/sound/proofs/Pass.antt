@@ -13,7 +13,7 @@ use Rattle.model.specs.Tree.{Item, Tree, nil, node, height, size}
 use Rattle.model.specs.declared.Shape.{Shape}
 use Rattle.model.proofs.Trees.{All, Balanced, Less, Ordered, all-map_t, all_both}
 use Rattle.cells.specs.Orders.{Deeper}
-use Rattle.cells.specs.Slots.{Slot, left_at, right_at, height_at, tall, numbers_of}
+use Rattle.cells.specs.Slots.{Room, Slot, left_at, right_at, height_at, tall, numbers_of}
 use Rattle.cells.specs.Memory.{Rep}
 use Rattle.cells.proofs.Reps.{Node, open-node, close-node, tall-rep, rep-bound, unique}
 use Rattle.cells.proofs.Slots.{tall-slot}
@@ -50,7 +50,7 @@ below K ks ls cut n s left bs r d j = record { good = λ m e t q. j.good m e (su
 none-below : (K : ℕ) (ks : List ℤ) (ls : List ℕ) (cut s left : ℕ) (bs : List ℕ) → s ≡ 0 → Below K ks ls cut s left bs (Some left)
 none-below K ks ls cut s left bs z = let j = λ (n : ℕ). nothing K ks ls n s left bs z in record { good = λ m e t q. (j (cut_field K (suc t))).good m e (suc t) refl; bad = λ e t q. (j (cut_field K (suc t))).bad e (suc t) refl }
 
-module _ (S : Shape) (ks : List ℤ) (ls : List ℕ) (cut s left : ℕ) (bs : List ℕ) (asked : Asked S (length ks) (length ls) cut bs) (slot : Slot (length ls) s) where
+module _ (S : Shape) (ks : List ℤ) (ls : List ℕ) (cut s left : ℕ) (bs : List ℕ) (room : Room S (length ks) (length ls)) (asked : Asked S cut bs) (slot : Slot (length ls) s) where
   abbrev K : ℕ
   K = S.k
 
@@ -100,17 +100,17 @@ module _ (S : Shape) (ks : List ℤ) (ls : List ℕ) (cut s left : ℕ) (bs : Li
       let i = rep-bound K ks ls (left_at ls s) n.l n.left in
       let j = rep-bound K ks ls (right_at ls s) n.r n.right in
       let g = n.high in
-      let e = asked.room.long in
+      let e = room.long in
       v.bad f (record { left_in = omega arith; right_in = omega arith; top = omega arith; near = rw (a, b) (even-of t x).0 }))
 
   pub not-inside : (o : Bool) → Tells (Inside K ks bs (numbers_of K ks s)) o → o ≡ false → J None
   not-inside o v f = refuse K ks ls cut s left bs (λ t q x h. v.bad f (mine t x))
 
   some : 1 ≤ K
-  some = asked.room.k_low
+  some = room.k_low
 
   four : K ≤ 4
-  four = asked.room.k_high
+  four = room.k_high
 
   lt : cut < K
   lt = asked.cut_in
@@ -122,7 +122,7 @@ module _ (S : Shape) (ks : List ℤ) (ls : List ℕ) (cut s left : ℕ) (bs : Li
   ne = slot-some (length ls) s slot
 
   long : length (numbers_of K ks s) ≡ K
-  long = slot-long S ks (length ls) s asked.room slot
+  long = slot-long S ks (length ls) s room slot
 
   -- what a side asks
   falls : (d : Side) → Tops ls S.c s → tall ls (across d ls s) < tall ls s
@@ -134,12 +134,12 @@ module _ (S : Shape) (ks : List ℤ) (ls : List ℕ) (cut s left : ℕ) (bs : Li
   stays high v = v.left_in
 
   pub side-ready : (d : Side) (t : ℕ) → 2 * tall ls s ≡ t → Tops ls S.c s → (n : ℕ) → Deeper K cut n → (l : ℕ) → l ≡ across d ls s → {es : List ℤ} → Edged K ks bs es → (x : ℤ) → x ≡ get_or (numbers_of K ks s) cut (pos 0)
-      → (2 * tall ls l + 1 < t) × ((Asked S (length ks) (length ls) n bs × ((l ≤ S.c) × ((place d cut < 8) × (s ≤ S.c)))) × Edged K ks (set bs (place d cut) s) (set es (place d cut) x))
+      → (2 * tall ls l + 1 < t) × ((Asked S n bs × ((l ≤ S.c) × ((place d cut < 8) × (s ≤ S.c)))) × Edged K ks (set bs (place d cut) s) (set es (place d cut) x))
   side-ready d t et v n deep l el {es} edged x ex =
       let f : tall ls l < tall ls s = rw el (falls d v) in (
         omega arith,
         (
-          (record { room = asked.room; cut_in = deep.low; eight = eight; bounds = asked.bounds }, (rw el (stays d v), (place_in d cut (let x = lt in let y = four in omega arith), slot-in S (length ks) (length ls) asked.room s slot))),
+          (record { cut_in = deep.low; eight = eight; bounds = asked.bounds }, (rw el (stays d v), (place_in d cut (let x = lt in let y = four in omega arith), slot-in S (length ks) (length ls) room s slot))),
           edged-set d K ks bs es cut s x four lt eight ex edged,
         ),
       )

@@ -59,8 +59,8 @@ module _ (S : Shape) (ks : List ℤ) (ls : List ℕ) (root n : ℕ) (room : Room
       let b : tall ls root ≡ height x.tree = tall-rep S.k ks ls root x.tree x.rep in
       omega arith)
 
-  pub start : root ≤ S.c → (root ≡ 0 → ⊥) → (bs : List ℕ) → bs ≡ replicate 8 0 → (es : List ℤ) → length es ≡ 8 → Asked S (length ks) (length ls) 0 bs × (Slot (length ls) root × Edged S.k ks bs es)
-  start h ne bs hb es he = rw hb (record { room = room; cut_in = room.k_low; eight = refl; bounds = open-fits S.c }, (is-slot S (length ks) (length ls) room root ne h, open-edged S.k ks es he))
+  pub start : root ≤ S.c → (root ≡ 0 → ⊥) → (bs : List ℕ) → bs ≡ replicate 8 0 → (es : List ℤ) → length es ≡ 8 → Asked S 0 bs × (Slot (length ls) root × Edged S.k ks bs es)
+  start h ne bs hb es he = rw hb (record { cut_in = room.k_low; eight = refl; bounds = open-fits S.c }, (is-slot S (length ks) (length ls) room root ne h, open-edged S.k ks es he))
 
   zero-cut : cut_field S.k 0 ≡ 0
   zero-cut = cut-self S.k 0 room.k_low

@@ -6,7 +6,7 @@ use Rattle.model.specs.Number.{order}
 use Rattle.model.specs.Tree.{Tree, size}
 use Rattle.model.specs.declared.Shape.{Shape}
 use Rattle.model.proofs.Trees.{All, Balanced, Even, Less, Ordered}
-use Rattle.cells.specs.Slots.{Room, left_at, right_at, height_at, tall, numbers_of}
+use Rattle.cells.specs.Slots.{left_at, right_at, height_at, tall, numbers_of}
 use Rattle.cells.specs.Memory.{Rep}
 
 -- slot a is before slot b at every depth that is cut at c, where both are slots
@@ -78,9 +78,8 @@ pub record Judged (K : ℕ) (ks : List ℤ) (ls : List ℕ) (c s left : ℕ) (bs
   pub good : (m : ℕ) → r ≡ Some m → (t : ℕ) → cut_field K t ≡ c → Good K ks ls t s left bs m
   pub bad : r ≡ None → (t : ℕ) → cut_field K t ≡ c → (x : Grown K ks ls t s bs) → size x.tree ≤ left → ⊥
 
--- what the pass asks
-pub record Asked (S : Shape) (nk nl cut : ℕ) (bs : List ℕ) : Type 0 where
-  pub room : Room S nk nl
+-- what the pass asks beside a pool
+pub record Asked (S : Shape) (cut : ℕ) (bs : List ℕ) : Type 0 where
   pub cut_in : cut < S.k
   pub eight : length bs ≡ 8
   pub bounds : BoundsIn S.c bs

@@ -9,6 +9,7 @@ ghost use Rattle.model.specs.Pool.{sound};
 ghost use Rattle.cells.specs.Slots.{Room};
 ghost use Rattle.sound.specs.Parts.{shape_of};
 
+use cells::pool::Pool;
 use model::{Head, Shape};
 
 // Whether a pool whose tables are as long as its head asks is sound.
@@ -19,10 +20,11 @@ pub fn is_sound(head: Head, keys: &[i64], links: &[usize]) -> bool
     if head.c < head.root || head.c < head.free || head.c < head.n {
         return false;
     }
-    let shape = Shape {
-        k: head.k,
-        c: head.c,
+    let pool = Pool {
+        shape: Shape::from(head),
+        keys,
+        links,
     };
-    crate::tree::tree_right(keys, links, shape, head.root, head.n)
-        && crate::chain::chain_right(keys, links, shape, head.free, head.c - head.n)
+    crate::tree::tree_right(&pool, head.root, head.n)
+        && crate::chain::chain_right(&pool, head.free, head.c - head.n)
 }

@@ -14,7 +14,7 @@ pub mod face;
 pub mod inner;
 pub mod told;
 
-// 0 where a pool is sound, else the number of the first of refusals 1 to 4 that holds.
+// 0 where a pool is sound, else the number of the first of refusals 1 to 4 that holds: C gets numbers.
 #[unsafe(no_mangle)]
 pub extern "C" fn book_judge(head: Head, keys: &[i64], links: &[usize]) -> usize
     ensures { result ≡ judged head keys.now links.now }

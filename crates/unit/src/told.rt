@@ -6,7 +6,7 @@ ghost use Rattle.unit.specs.Face as face;
 use crate::face::Told;
 use model::{Answer, Outcome};
 
-// The number of an outcome, in the paper's order.
+// The number of an outcome, in the paper's order: an enum does not go through a door of C.
 pub fn outcome_of(outcome: Outcome) -> usize
     ensures { result ≡ face.outcome_in outcome }
 {
@@ -18,7 +18,7 @@ pub fn outcome_of(outcome: Outcome) -> usize
     }
 }
 
-// The refusal's number, 0 where nothing was refused.
+// The refusal's number, 0 where nothing was refused, as C gets it.
 pub fn refusal_of(outcome: Outcome) -> usize
     ensures { result ≡ refusal_in outcome }
 {

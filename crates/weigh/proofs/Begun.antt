@@ -92,9 +92,6 @@ module _ (K : ℕ) (xs : List ℤ) where
   abbrev pub Begun : ℕ → Type 0
   Begun i = (i ≤ many) × (begun K (many - i) (drop (i * (K + 1)) xs) ≡ begun K many xs)
 
-  pub begun_first : Begun 0
-  begun_first = let m : many - 0 ≡ many = omega arith in let z : 0 * (K + 1) ≡ 0 = omega arith in (omega arith, rw (m, z) refl)
-
   module _ (i : ℕ) (v : Begun i) where
     module _ (l : i < many) (r : Bool) (e : r ≡ (begins 1 (item_of K xs i) || begins 2 (item_of K xs i))) where
       opens : begun K many xs ≡ (r && begun K (many - (i + 1)) (drop ((i + 1) * (K + 1)) xs))

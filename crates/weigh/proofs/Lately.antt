@@ -5,7 +5,6 @@ use mathlib.Core.List.{List, [], ◌∷◌}
 use mathlib.Core.Option.{none}
 use Prim.Native.Nat.{ℕ, suc, ◌+◌, ◌-◌, ◌*◌, ◌≤◌, ◌<◌, Ordering}
 use native.Mathlib.Omega.{arith}
-use native.Mathlib.Nat.{suc-mul, mul-le-mul_right}
 use lib.Dec.{compare_is_eq}
 use lib.ListN.{length, drop, length-drop}
 use lib.Seq.{length-take-le}
@@ -130,12 +129,6 @@ after-other e (striking x) z n = ap (λ y. not y && z) (unlike-not e x (λ q. n 
 
 pub entry-long : (K : ℕ) (xs : List ℤ) (i : ℕ) → i * (K + 1) + (K + 1) ≤ length xs → length (entry_at K xs i) ≡ K
 entry-long K xs i l = length-take-le K (drop (i * (K + 1) + 1) xs) (simp length-drop (omega arith))
-
-pub item-below : (K n i j : ℕ) → j < i → i * (K + 1) + (K + 1) ≤ n → j * (K + 1) + (K + 1) ≤ n
-item-below K n i j l f =
-    let a : suc j * (K + 1) ≤ i * (K + 1) = mul-le-mul_right (K + 1) l in
-    let e = suc-mul j (K + 1) in
-    omega arith
 
 -- the items from j to i say nothing of the entry
 abbrev pub Silent : ℕ → List ℤ → Entry → Bool → ℕ → ℕ → Type 0

@@ -2,14 +2,12 @@
 use mathlib.Core.Path.{◌≡◌, refl, sym, ◌∙◌}
 use mathlib.Core.Bool.{Bool, true, false, ◌||◌, true≢false}
 use mathlib.Core.List.{List, [], ◌∷◌}
-use Prim.Native.Nat.{ℕ, zero, suc, ◌+◌, ◌≤◌, ◌<◌}
+use Prim.Native.Nat.{ℕ, zero, suc, ◌≤◌, ◌<◌}
 use native.Mathlib.Omega.{arith}
-use native.Mathlib.Numerals.{add-one}
 use lib.Dec.{eqb}
 use lib.ListN.{length, get_or, take}
-use borrow.Author.Tests.{eq-eqb, ne_eqb}
+use borrow.Author.Tests.{eq-eqb}
 use Rattle.model.specs.Calls.{any_zero}
-use Rattle.model.proofs.Listings.{or-false}
 
 -- met at place i
 pub zero-at : (ss : List ℕ) (k i : ℕ) → i < k → i < length ss → get_or ss i 0 ≡ 0 → any_zero (take k ss) ≡ true
@@ -21,15 +19,6 @@ zero-at (s ∷ ss) (suc k) (suc i) h l e = go (eqb s 0) (zero-at ss k i (omega a
     go : (o : Bool) → any_zero (take k ss) ≡ true → (o || any_zero (take k ss)) ≡ true
     go true f = refl
     go false f = f
-
--- not met up to place i, nor there
-pub zero-on : (ss : List ℕ) (i : ℕ) → i < length ss → any_zero (take i ss) ≡ false → ¬ (get_or ss i 0 ≡ 0) → any_zero (take (i + 1) ss) ≡ false
-zero-on ss i l e n = rw add-one (go ss i l e n)
-  where
-    go : (ss : List ℕ) (i : ℕ) → i < length ss → any_zero (take i ss) ≡ false → ¬ (get_or ss i 0 ≡ 0) → any_zero (take (suc i) ss) ≡ false
-    go [] i l e n = absurd (omega arith)
-    go (s ∷ ss) zero l e n = rw (ne_eqb s 0 n) refl
-    go (s ∷ ss) (suc i) l e n = let x = or-false (eqb s 0) (any_zero (take i ss)) e in rw x.0 (go ss i (omega arith) x.1 n)
 
 pub all-steps : (ss : List ℕ) (k : ℕ) → k ≤ length ss → any_zero (take k ss) ≡ false → (i : ℕ) → i < k → 0 < get_or ss i 0
 all-steps ss k l e i h = let n : ¬ (get_or ss i 0 ≡ 0) = λ q. true≢false (sym (zero-at ss k i h (omega arith) q) ∙ e) in omega (arith, n)

@@ -2,23 +2,22 @@
 ghost use Rattle.std.specs.Prelude.{◌≡◌, ◌+◌, ◌*◌, ◌≤◌, length};
 ghost use Rattle.model.specs.Ask.{has};
 ghost use Rattle.model.specs.Laws.{first_wrong_item};
-ghost use Rattle.model.specs.Pool.{book_of};
-ghost use Rattle.model.specs.Rebuild.{listing};
 ghost use Rattle.model.specs.Tray.{works};
+ghost use Rattle.weigh.specs.Books.{book_in, entries_held};
 ghost use Rattle.weigh.specs.Items.{entry_at, is_there_by};
 ghost use Rattle.weigh.specs.Judging.{verdict_on, first_of};
-ghost use Rattle.weigh.specs.Sounds.{Sound};
 
 use crate::items::{adds, alike, entry_in, item_at};
+use crate::known::Known;
 use crate::pool::is_there;
-use model::{Head, Refusal};
+use model::Refusal;
 
 // Whether the entry of item i is there by then: the last item before it with the same entry tells, where there is none the pool.
-pub fn there_by(head: Head, keys: &[i64], links: &[usize], items: &[i64], i: usize) -> bool
-    requires { Sound head keys.now links.now × (i * (head.k + 1) + (head.k + 1) ≤ length items.now) }
-    ensures { result ≡ is_there_by head.k items.now (entry_at head.k items.now i) (has (entry_at head.k items.now i) (listing (book_of head keys.now links.now).tree)) i }
+pub fn there_by(known: &Known<'_>, items: &[i64], i: usize) -> bool
+    requires { i * (known.now.head.k + 1) + (known.now.head.k + 1) ≤ length items.now }
+    ensures { result ≡ is_there_by known.now.head.k items.now (entry_at known.now.head.k items.now i) (has (entry_at known.now.head.k items.now i) (entries_held known.now)) i }
 {
-    let k = head.k;
+    let k = known.head.k;
     let item = item_at(items, k, i);
     for j in (0..i).rev() {
         let before = item_at(items, k, j);
@@ -26,7 +25,7 @@ pub fn there_by(head: Head, keys: &[i64], links: &[usize], items: &[i64], i: usi
             return adds(before);
         }
     }
-    is_there(head, keys, links, entry_in(item))
+    is_there(known, entry_in(item))
 }
 
 // An add of what is there or without a free slot, a strike of what is not there.
@@ -42,22 +41,16 @@ pub fn judge(add: bool, there: bool, n: usize, c: usize) -> Result<(), Refusal>
 }
 
 // The place, from 1, and the refusal of the first wrong item of a tray.
-pub fn first_wrong(
-    head: Head,
-    keys: &[i64],
-    links: &[usize],
-    items: &[i64],
-) -> Option<(usize, Refusal)>
-    requires { Sound head keys.now links.now }
-    ensures { result ≡ first_of (first_wrong_item head.c 1 (works head.k items.now) (book_of head keys.now links.now)) }
+pub fn first_wrong(known: &Known<'_>, items: &[i64]) -> Option<(usize, Refusal)>
+    ensures { result ≡ first_of (first_wrong_item known.now.head.c 1 (works known.now.head.k items.now) (book_in known.now)) }
 {
-    let k = head.k;
+    let k = known.head.k;
     let many = items.len() / (k + 1);
-    let mut n = head.n;
+    let mut n = known.head.n;
     for i in 0..many {
-        let there = there_by(head, keys, links, items, i);
+        let there = there_by(known, items, i);
         let add = adds(item_at(items, k, i));
-        if let Err(why) = judge(add, there, n, head.c) {
+        if let Err(why) = judge(add, there, n, known.head.c) {
             return Some((i + 1, why));
         }
         n = if add { n + 1 } else { n - 1 };

@@ -3,6 +3,7 @@
 
 pub mod items;
 pub mod judging;
+pub mod known;
 pub mod lines;
 pub mod pool;
 pub mod step;

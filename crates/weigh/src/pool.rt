@@ -2,12 +2,11 @@
 ghost use Rattle.std.specs.Prelude.{◌≡◌};
 ghost use Rattle.model.specs.Answer.{inward};
 ghost use Rattle.model.specs.Ask.{has};
-ghost use Rattle.model.specs.Pool.{book_of};
-ghost use Rattle.model.specs.Rebuild.{listing};
-ghost use Rattle.weigh.specs.Sounds.{Sound};
+ghost use Rattle.weigh.specs.Books.{entries_held};
 
+use crate::known::Known;
 use ask::walk::Walk;
-use model::{Entry, Head, Shape};
+use model::{Entry, Shape};
 
 // The slots of a small pool, and of any.
 pub const FEW: usize = 256;
@@ -15,6 +14,7 @@ pub const FEW: usize = 256;
 pub const MOST: usize = 4096;
 
 // Work over lists as long as a pool has slots: short ones for a small pool, since clearing long ones would be most of its work.
+// A macro and no function over a closure: what a closure writes to what it borrowed is not known to its caller, and the proofs did not close.
 #[macro_export]
 macro_rules! with_lists {
     ($c:expr; $($list:ident),+; $work:expr) => {
@@ -31,10 +31,10 @@ macro_rules! with_lists {
 }
 
 // Whether the entry is there.
-pub fn is_there(head: Head, keys: &[i64], links: &[usize], entry: Entry) -> bool
-    requires { Sound head keys.now links.now }
-    ensures { result ≡ has (inward head.k entry) (listing (book_of head keys.now links.now).tree) }
+pub fn is_there(known: &Known<'_>, entry: Entry) -> bool
+    ensures { result ≡ has (inward known.now.head.k entry) (entries_held known.now) }
 {
-    let end = ask::walk::walk_down(Shape::from(head), head.root, entry, keys, links);
+    let head = known.head;
+    let end = ask::walk::walk_down(Shape::from(head), head.root, entry, known.keys, known.links);
     matches!(end, Walk::Found(..))
 }

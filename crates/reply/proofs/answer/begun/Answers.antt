@@ -5,4 +5,4 @@ use Rattle.reply.proofs.Gates.{fresh-head}
 use Rattle.reply.proofs.answer.begun.Goals as goal
 
 pub returns : goal.returns
-returns c = λ h. c.plain.ensures ∙ ap (plain Done) (fresh-head c.args.k c.args.c h)
+returns c = λ h. (rw (c.default.ensures.1.1.0, c.default.ensures.1.1.1.1) at c.plain.ensures) ∙ ap (plain Done) (fresh-head c.args.k c.args.c h)

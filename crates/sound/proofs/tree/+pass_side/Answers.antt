@@ -20,7 +20,8 @@ pass-returns-then-l-r-eq0 t c = search (laws.leaf, rules)
 pub pass-side-requires : goal.pass-side-requires
 pass-side-requires t c =
     let A = c.args in
-    laws.side-ready A.shape A.keys.now A.links.now A.cut A.s A.left A.fence.now.bounds c.requires.0 c.requires.1.0 Side.high t c.decreases (c.topped.ensures.good c.if-not-topped.false) c.next_cut-next.result c.next_cut-next.ensures c.left_of-l.result c.left_of-l.ensures c.requires.1.1 _ (back _ c.number_at-x.type_inv ∙ c.number_at-x.ensures)
+    let P = A.pool.now in
+    laws.side-ready P.shape P.keys.now P.links.now A.cut A.s A.left A.fence.now.bounds P.room c.requires.0 c.requires.1.0 Side.high t c.decreases (c.topped.ensures.good c.if-not-topped.false) c.next_cut-next.result c.next_cut-next.ensures c.left_of-l.result c.left_of-l.ensures c.requires.1.1 _ (back _ c.number_at-x.type_inv ∙ c.number_at-x.ensures)
 
 pub pass-returns-in_err-rest : goal.pass-returns-in_err-rest
 pass-returns-in_err-rest t c = rw c.from_residual.ensures (search (laws.left-bad, rules))
@@ -28,14 +29,16 @@ pass-returns-in_err-rest t c = rw c.from_residual.ensures (search (laws.left-bad
 pub pass-side-requires-2 : goal.pass-side-requires-2
 pass-side-requires-2 t c =
     let A = c.args in
-    rw c.side.ensures.1 (laws.side-ready A.shape A.keys.now A.links.now A.cut A.s A.left A.fence.now.bounds c.requires.0 c.requires.1.0 Side.low t c.decreases (c.topped.ensures.good c.if-not-topped.false) c.next_cut-next.result c.next_cut-next.ensures c.right_of-r.result c.right_of-r.ensures c.requires.1.1 _ (back _ c.number_at-x.type_inv ∙ c.number_at-x.ensures))
+    let P = A.pool.now in
+    rw c.side.ensures.1 (laws.side-ready P.shape P.keys.now P.links.now A.cut A.s A.left A.fence.now.bounds P.room c.requires.0 c.requires.1.0 Side.low t c.decreases (c.topped.ensures.good c.if-not-topped.false) c.next_cut-next.result c.next_cut-next.ensures c.right_of-r.result c.right_of-r.ensures c.requires.1.1 _ (back _ c.number_at-x.type_inv ∙ c.number_at-x.ensures))
 
 pub pass-returns : goal.pass-returns
 pass-returns t c =
     let A = c.args in
+    let P = A.pool.now in
     let X = c.side in
     let Y = c.side-2 in
-    (laws.both-sides A.shape A.keys.now A.links.now A.cut A.s A.left A.fence.now.bounds c.requires.0 c.requires.1.0 c.left_of-l.result c.left_of-l.ensures c.if-left-eq0.false (c.topped.ensures.good c.if-not-topped.false) (c.enclosed.ensures.good c.if-not-enclosed.false) c.next_cut-next.result c.next_cut-next.ensures X.result X.ensures.0 c.in_ok-rest.rest c.in_ok-rest.was c.right_of-r.result c.right_of-r.ensures Y.result (rw X.ensures.1 at Y.ensures.0), Y.ensures.1 ∙ X.ensures.1)
+    (laws.both-sides P.shape P.keys.now P.links.now A.cut A.s A.left A.fence.now.bounds P.room c.requires.0 c.requires.1.0 c.left_of-l.result c.left_of-l.ensures c.if-left-eq0.false (c.topped.ensures.good c.if-not-topped.false) (c.enclosed.ensures.good c.if-not-enclosed.false) c.next_cut-next.result c.next_cut-next.ensures X.result X.ensures.0 c.in_ok-rest.rest c.in_ok-rest.was c.right_of-r.result c.right_of-r.ensures Y.result (rw X.ensures.1 at Y.ensures.0), Y.ensures.1 ∙ X.ensures.1)
 
 pub side-returns-then-s-eq0 : goal.side-returns-then-s-eq0
 side-returns-then-s-eq0 t c = search (laws.nothing, rules)
