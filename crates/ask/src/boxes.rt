@@ -8,7 +8,7 @@ ghost use Rattle.ask.specs.Boxes.{is_lower_open, is_upper_open, Weighed, Noted, 
 use cells::pool::Pool;
 use model::Bound;
 
-// Whether a bound can hold a number that is not above x.
+// Whether a bound can hold a number that is not above x. Its two arms are not one: a signed number that an or-pattern binds cannot be proved about today.
 #[tactic(auto, using(gauge::proofs::Boxes::le_back), unfolding(crate::specs::Boxes::is_lower_open))]
 pub fn lower_open(b: Bound, x: i64) -> bool
     ensures { result ≡ is_lower_open b x }

@@ -174,26 +174,20 @@ pub fn take_in(
     ensures links { links.new ≡ (calls.take_in head keys.old links.old scratch.old text.now).links }
     ensures scratch { scratch.new ≡ (calls.take_in head keys.old links.old scratch.old text.now).scratch }
 {
-    let k = head.k;
     if let Err(why) = gate::pool(head, keys, links, scratch.len()) {
         return answer::refused(head, why);
     }
     match text::take_apart(text) {
         Err(Broken { line }) => answer::broken(head, line),
-        Ok(
-            Title {
-                fields,
-                entries: lines,
-            },
-        ) => {
-            if fields != k {
+        Ok(Title { fields, entries }) => {
+            if fields != head.k {
                 return answer::refused(head, Refusal::Mismatch);
             }
-            if weigh::lines::too_many(&Known { head, keys, links }, text, lines) {
+            if weigh::lines::too_many(&Known { head, keys, links }, text, entries) {
                 return answer::refused(head, Refusal::Full);
             }
             scratch.fill(0);
-            let after = desk::spare::take_in(head, keys, links, scratch, text, lines);
+            let after = desk::spare::take_in(head, keys, links, scratch, text, entries);
             answer::plain(Outcome::Done, after)
         }
     }

@@ -9,9 +9,7 @@ ghost use Rattle.weigh.specs.Saved.{Saves};
 use crate::known::Known;
 use crate::pool::is_there;
 
-// A text and its lines go apart: as one value they would still need the clause that its fields are the book's.
-
-// How many of the text's entries are not there.
+// How many of the text's entries are not there. A text and its lines are two arguments: as one value they would still need the clause that its fields are the book's.
 pub fn count_new(known: &Known<'_>, text: &[u8], lines: usize) -> usize
     requires { Saves text.now known.now.head.k lines }
     ensures { result ≡ length (new_of (entries_held known.now) (entries_in (parse text.now))) }
