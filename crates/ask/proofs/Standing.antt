@@ -65,6 +65,9 @@ module _ (S : Shape) (ks : List ℤ) (ls : List ℕ) (s c most : ℕ) (m : Room 
   pub pooled : s ≤ S.c
   pooled = let a : 3 * s ≤ length ls = slot-here.fits in let b = m.long in omega arith
 
+  pub low-here : s ≤ 4096
+  low-here = let a = pooled in let b = m.c_high in omega arith
+
   pub keyed-here : Keyed S.k (length ks) s
   keyed-here = keyed-in S (length ks) (length ls) s m ne pooled
 

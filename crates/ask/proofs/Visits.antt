@@ -8,12 +8,14 @@ use native.Mathlib.Nat.{zero-mod}
 use lib.IntN.{ℤ}
 use Rattle.model.specs.Entry.{cut_field, cmp}
 use Rattle.model.proofs.Orders.{flip, cmp-flip}
+use Rattle.model.specs.declared.Shape.{Shape}
 use Rattle.cells.specs.Orders as orders
-use Rattle.cells.specs.Slots.{numbers_of, SlotsCompared}
+use Rattle.cells.specs.Slots.{numbers_of, Room, SlotsCompared}
 use Rattle.std.specs.declared.cmp.Ordering.{Ordering as Order}
 use Rattle.std.specs.declared.cmp.Ordering.TheVariants as told
-use Rattle.std.proofs.Common.{Option, Some}
-use Rattle.ask.specs.Nearest.{Bettered, Pooled}
+use Rattle.std.proofs.Common.{Option, Some, None}
+use Rattle.ask.specs.Nearest.{Bettered, Pooled, Tabled}
+use Rattle.ask.proofs.Walks.{keyed-in}
 use Rattle.ask.specs.declared.near.Best.{Best}
 
 pub less_other : (o : Order) → o ≡ told.Less → ¬ (o ≡ told.Greater)
@@ -37,3 +39,8 @@ module _ (K : ℕ) (ks : List ℤ) (b : Best) (s d : ℕ) (o : Order) (low : 1 �
 -- what is seen next is one of the pool again
 pub pool-kept : (C : ℕ) (b : Option Best) (r : Best) (s : ℕ) → Pooled C b → 1 ≤ s → s ≤ C → (b ≡ Some r) ⊎ (r.slot ≡ s) → Pooled C (Some r)
 pool-kept C b r s h low g w = ⊎_elim (λ e. rw e at h) (λ e. (omega arith, omega arith)) w
+
+-- what lies in the pool lies in its key table
+pub pool-tabled : (S : Shape) (nk nl : ℕ) → Room S nk nl → (b : Option Best) → Pooled S.c b → Tabled S.k nk b
+pool-tabled S nk nl m None h = tt
+pool-tabled S nk nl m (Some b) h = let c = m.c_high in (omega arith, keyed-in S nk nl b.slot m (λ z. omega arith) h.1)

@@ -7,7 +7,7 @@ use Rattle.model.specs.Tree.{Item, Tree, items, is_less}
 use Rattle.model.specs.declared.Shape.{Shape}
 use Rattle.model.proofs.Nears.{AsGood}
 use Rattle.model.proofs.Trees.{Less}
-use Rattle.cells.specs.Slots.{left_at, right_at, numbers_of}
+use Rattle.cells.specs.Slots.{left_at, right_at, numbers_of, Keyed}
 use Rattle.ask.specs.Standing.{Stands}
 use Rattle.ask.specs.declared.near.Best.{Best}
 use Rattle.ask.specs.declared.near.Turn.{Turn}
@@ -32,6 +32,11 @@ BestOf K ks steps q held (Some b) = Chosen K ks steps q held b
 abbrev pub Pooled : ℕ → Option Best → Type 0
 Pooled C None = Unit {0}
 Pooled C (Some b) = (1 ≤ b.slot) × (b.slot ≤ C)
+
+-- the best so far, where there is one, lies in a key table of n numbers
+abbrev pub Tabled : ℕ → ℕ → Option Best → Type 0
+Tabled K n None = Unit {0}
+Tabled K n (Some b) = (b.slot ≤ 4096) × Keyed K n b.slot
 
 -- b stays: it is nearer than slot s at distance d, or as near and not behind it in listing order
 pub record Stays (K : ℕ) (ks : List ℤ) (b : Best) (s d : ℕ) (r : Best) : Type 0 where

@@ -1,12 +1,11 @@
 // The slots of a box, by a walk that leaves out a side where the cut shuts it out.
 ghost use Rattle.std.specs.Prelude.{◌≡◌, ◌-◌, ◌≤◌, ◌<◌, length};
-ghost use Rattle.model.proofs.Crowd.{InPool};
-ghost use Rattle.cells.specs.Slots.{numbers_of};
+ghost use Rattle.cells.specs.Slots.{numbers_of, Keyed};
 ghost use Rattle.ask.specs.Standing.{Standing};
 ghost use Rattle.ask.specs.Boxes.{is_lower_open, is_upper_open, Weighed, Noted, Collected};
 
 use cells::pool::Pool;
-use model::Bound;
+use model::{Bound, Shape};
 
 // Whether a bound can hold a number that is not above x. Its two arms are not one: a signed number that an or-pattern binds cannot be proved about today.
 #[tactic(auto, using(gauge::proofs::Boxes::le_back), unfolding(crate::specs::Boxes::is_lower_open))]
@@ -53,11 +52,12 @@ pub fn weigh(part: &[i64], cut: usize, bounds: [Bound; 4]) -> Sides
 }
 
 // The entry in a slot weighed.
-fn weigh_slot(pool: &Pool<'_>, s: usize, cut: usize, bounds: [Bound; 4]) -> Sides
-    requires { (cut < pool.now.shape.k) × InPool pool.now.shape.c s }
-    ensures { Weighed bounds (numbers_of pool.now.shape.k pool.now.keys.now s) cut result }
+pub fn weigh_slot(keys: &[i64], shape: Shape, s: usize, cut: usize, bounds: [Bound; 4]) -> Sides
+    requires cut_lt_k { (cut < shape.k) × ((shape.k ≤ 4) × (s ≤ 4096)) }
+    requires keyed { Keyed shape.k (length keys.now) s }
+    ensures { Weighed bounds (numbers_of shape.k keys.now s) cut result }
 {
-    weigh(cells::slot::numbers(pool.keys, pool.shape, s), cut, bounds)
+    weigh(cells::slot::numbers(keys, shape, s), cut, bounds)
 }
 
 // Notes a slot at a place where it is one of the box; returns the place behind. The choice has a function of its own, since a fact is lost where its branches join before the next call.
@@ -88,7 +88,7 @@ pub fn collect(
     if s == 0 {
         return at;
     }
-    let w = weigh_slot(pool, s, cut, bounds);
+    let w = weigh_slot(pool.keys, pool.shape, s, cut, bounds);
     let next = cells::order::next_cut(pool.shape, cut);
     let mut m = at;
     if w.lower {

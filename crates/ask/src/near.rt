@@ -1,12 +1,12 @@
 // The nearest entry of a tree in lent memory.
-ghost use Rattle.std.specs.Prelude.{ℕ, ◌<◌, take, get_or, None};
-ghost use Rattle.model.proofs.Crowd.{InPool};
+ghost use Rattle.std.specs.Prelude.{ℕ, ◌≤◌, ◌<◌, length, take, get_or, None};
+ghost use Rattle.cells.specs.Slots.{Keyed, Slot};
 ghost use Rattle.ask.specs.Standing.{Standing};
-ghost use Rattle.ask.specs.Nearest.{Pooled, Bettered, Visited, Turned, Searched};
+ghost use Rattle.ask.specs.Nearest.{Pooled, Tabled, Bettered, Visited, Turned, Searched};
 
 use crate::query::Query;
 use cells::pool::Pool;
-use model::Entry;
+use model::{Entry, Shape};
 use std::cmp::Ordering;
 
 // The best so far: its slot and its distance.
@@ -25,9 +25,10 @@ pub struct Turn {
 }
 
 // The nearer of the best so far, where there is one, and slot s at distance d; at a tie the first in listing order.
-fn better(pool: &Pool<'_>, best: Option<Best>, s: usize, d: u64) -> Best
-    requires { InPool pool.now.shape.c s × Pooled pool.now.shape.c best }
-    ensures { Bettered pool.now.shape.k pool.now.keys.now best s d result }
+pub fn better(keys: &[i64], shape: Shape, best: Option<Best>, s: usize, d: u64) -> Best
+    requires le_k { (1 ≤ shape.k) × ((shape.k ≤ 4) × (s ≤ 4096)) }
+    requires keyed { Keyed shape.k (length keys.now) s × Tabled shape.k (length keys.now) best }
+    ensures { Bettered shape.k keys.now best s d result }
 {
     let here = Best {
         slot: s,
@@ -42,35 +43,50 @@ fn better(pool: &Pool<'_>, best: Option<Best>, s: usize, d: u64) -> Best
     if d < b.distance {
         return here;
     }
-    match cells::slot::compare_slots(pool.keys, pool.shape, b.slot, s, 0) {
+    match cells::slot::compare_slots(keys, shape, b.slot, s, 0) {
         Ordering::Greater => here,
         Ordering::Less | Ordering::Equal => b,
     }
 }
 
 // The best so far once the entry in slot s is seen.
-fn visit(query: &Query<'_>, s: usize, best: Option<Best>) -> Best
-    requires { InPool query.now.pool.shape.c s × Pooled query.now.pool.shape.c best }
-    ensures { Visited query.now.pool.shape.k query.now.pool.keys.now query.now.steps (take query.now.pool.shape.k query.now.numbers) best s result }
+pub fn visit(
+    keys: &[i64],
+    shape: Shape,
+    s: usize,
+    q: Entry,
+    steps: [u64; 4],
+    best: Option<Best>,
+) -> Best
+    requires le_k { (1 ≤ shape.k) × ((shape.k ≤ 4) × (s ≤ 4096)) }
+    requires keyed { Keyed shape.k (length keys.now) s × Tabled shape.k (length keys.now) best }
+    requires by_index { (i : ℕ) → i < shape.k → 0 < get_or steps i 0 }
+    ensures { Visited shape.k keys.now steps (take shape.k q.f) best s result }
 {
-    let pool = &query.pool;
-    let note = Entry { f: query.numbers };
-    let numbers = cells::slot::numbers(pool.keys, pool.shape, s);
-    let d = gauge::distance::distance_of(query.steps, note, numbers);
-    better(pool, best, s, d)
+    let d = gauge::distance::distance_of(steps, q, cells::slot::numbers(keys, shape, s));
+    better(keys, shape, best, s, d)
 }
 
 // Where the query lies as seen from the cut field of slot s.
-fn turn_at(query: &Query<'_>, s: usize, cut: usize) -> Turn
-    requires { (cut < query.now.pool.shape.k) × InPool query.now.pool.shape.c s }
-    ensures { Turned query.now.pool.shape.k query.now.pool.keys.now query.now.pool.links.now query.now.steps (take query.now.pool.shape.k query.now.numbers) s cut result }
+pub fn turn_at(
+    keys: &[i64],
+    links: &[usize],
+    shape: Shape,
+    s: usize,
+    cut: usize,
+    q: Entry,
+    steps: [u64; 4],
+) -> Turn
+    requires cut_lt_k { (cut < shape.k) × ((shape.k ≤ 4) × (s ≤ 4096)) }
+    requires keyed { Keyed shape.k (length keys.now) s × Slot (length links.now) s }
+    requires by_index { (i : ℕ) → i < shape.k → 0 < get_or steps i 0 }
+    ensures { Turned shape.k keys.now links.now steps (take shape.k q.f) s cut result }
 {
-    let pool = &query.pool;
-    let x = cells::slot::number_at(pool.keys, pool.shape, s, cut);
-    let y = query.numbers[cut];
-    let edge = gauge::distance::field_distance(query.steps[cut], y, x);
-    let left = cells::slot::left_of(pool.links, s);
-    let right = cells::slot::right_of(pool.links, s);
+    let x = cells::slot::number_at(keys, shape, s, cut);
+    let y = q.f[cut];
+    let edge = gauge::distance::field_distance(steps[cut], y, x);
+    let left = cells::slot::left_of(links, s);
+    let right = cells::slot::right_of(links, s);
     if y < x {
         Turn {
             near: left,
@@ -95,9 +111,11 @@ pub fn nearest_in(query: &Query<'_>, s: usize, cut: usize, best: Option<Best>) -
     if s == 0 {
         return best;
     }
-    let here = visit(query, s, best);
-    let turn = turn_at(query, s, cut);
-    let next = cells::order::next_cut(query.pool.shape, cut);
+    let pool = &query.pool;
+    let note = Entry { f: query.numbers };
+    let here = visit(pool.keys, pool.shape, s, note, query.steps, best);
+    let turn = turn_at(pool.keys, pool.links, pool.shape, s, cut, note, query.steps);
+    let next = cells::order::next_cut(pool.shape, cut);
     let after = nearest_in(query, turn.near, next, Some(here));
     if after.is_some_and(|b| b.distance < turn.edge) {
         after

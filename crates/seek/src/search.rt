@@ -1,11 +1,13 @@
 // The replacement of a struck entry: the last entry of one of its sides, towards it, under its own super key.
 ghost use Rattle.std.specs.Prelude.{◌≡◌, ◌≤◌, ◌<◌, length};
 ghost use Rattle.model.proofs.Crowd.{InPool};
+ghost use Rattle.cells.specs.Slots.{Keyed};
 ghost use Rattle.ask.specs.Standing.{Standing};
 ghost use Rattle.seek.specs.Seeks.{Better, Further, Sought};
 
 use crate::side::Side;
 use cells::pool::Pool;
+use model::Shape;
 use std::cmp::Ordering;
 
 // The last towards an entry whose cut is `home`, in the tree at s, which is cut at `cut`. The two kinds of level take turns.
@@ -62,18 +64,16 @@ pub fn best_of(pool: &Pool<'_>, side: Side, home: usize, best: usize, s: usize, 
         return best;
     }
     let sought = seek(pool, side, home, s, cut);
-    further(pool, side, home, best, sought)
+    further(pool.keys, pool.shape, side, home, best, sought)
 }
 
 // Of two slots the one whose entry is the further towards the struck one.
-fn further(pool: &Pool<'_>, side: Side, home: usize, a: usize, b: usize) -> usize
-    requires { (home < pool.now.shape.k) × (InPool pool.now.shape.c a × InPool pool.now.shape.c b) }
-    ensures { Further pool.now.shape.k pool.now.keys.now side home a b result }
+pub fn further(keys: &[i64], shape: Shape, side: Side, home: usize, a: usize, b: usize) -> usize
+    requires home_lt_k { (home < shape.k) × ((shape.k ≤ 4) × ((a ≤ 4096) × (b ≤ 4096))) }
+    requires keyed { Keyed shape.k (length keys.now) a × Keyed shape.k (length keys.now) b }
+    ensures { Further shape.k keys.now side home a b result }
 {
-    match (
-        cells::slot::compare_slots(pool.keys, pool.shape, a, b, home),
-        side,
-    ) {
+    match (cells::slot::compare_slots(keys, shape, a, b, home), side) {
         (Ordering::Less, Side::Left) | (Ordering::Greater, Side::Right) => b,
         (Ordering::Less, Side::Right) | (Ordering::Greater, Side::Left) => a,
         (Ordering::Equal, _) => a,

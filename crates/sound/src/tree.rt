@@ -1,10 +1,11 @@
 // Whether the tree in a pool is right: one pass, each entry against the tightest bound of each cut and side.
-ghost use Rattle.std.specs.Prelude.{◌≡◌, ◌<◌, ◌≤◌, length, get_or, set, pos, replicate};
-ghost use Rattle.cells.specs.Slots.{Slot, numbers_of};
+ghost use Rattle.std.specs.Prelude.{◌≡◌, ◌*◌, ◌<◌, ◌≤◌, length, get_or, set, pos, replicate};
+ghost use Rattle.cells.specs.Slots.{Room, Slot, numbers_of};
 ghost use Rattle.sound.specs.Parts.{Tells};
 ghost use Rattle.sound.specs.Tree.{Before, Inside, BoundsIn, Between, Amid, Edged, Over, Tops, Judged, Asked, Whole};
 
 use cells::pool::Pool;
+use model::Shape;
 use std::cmp::Ordering;
 
 // The bounds of a side, a slot for each cut and end, 0 for none, and their edges, each bound's number in the field of its cut.
@@ -44,23 +45,21 @@ impl Fence {
 
 // Whether slot a is before slot b at a cut, where both are slots.
 #[tactic(auto, using(crate::proofs::Marks::before_told))]
-fn before(pool: &Pool<'_>, a: usize, b: usize, cut: usize) -> bool
-    requires { (cut < pool.now.shape.k) × ((a ≤ pool.now.shape.c) × (b ≤ pool.now.shape.c)) }
-    ensures { Tells (Before pool.now.shape.k pool.now.keys.now cut a b) result }
+pub fn before(keys: &[i64], shape: Shape, a: usize, b: usize, cut: usize) -> bool
+    requires { Room shape (length keys.now) (3 * shape.c) × ((cut < shape.k) × ((a ≤ shape.c) × (b ≤ shape.c))) }
+    ensures { Tells (Before shape.k keys.now cut a b) result }
 {
-    a == 0
-        || b == 0
-        || cells::slot::compare_slots(pool.keys, pool.shape, a, b, cut) == Ordering::Less
+    a == 0 || b == 0 || cells::slot::compare_slots(keys, shape, a, b, cut) == Ordering::Less
 }
 
 // Whether slot s is inside the bounds: the lower one of cut i at i, the upper one at 4 + i, 0 for none.
 #[cold]
-fn inside(pool: &Pool<'_>, s: usize, bounds: &[usize; 8]) -> bool
-    requires { Slot (length pool.now.links.now) s × BoundsIn pool.now.shape.c bounds.now }
-    ensures { Tells (Inside pool.now.shape.k pool.now.keys.now bounds.now (numbers_of pool.now.shape.k pool.now.keys.now s)) result }
+pub fn inside(keys: &[i64], shape: Shape, s: usize, bounds: &[usize; 8]) -> bool
+    requires { Room shape (length keys.now) (3 * shape.c) × (Slot (3 * shape.c) s × BoundsIn shape.c bounds.now) }
+    ensures { Tells (Inside shape.k keys.now bounds.now (numbers_of shape.k keys.now s)) result }
 {
-    for i in 0..pool.shape.k {
-        if !before(pool, bounds[i], s, i) || !before(pool, s, bounds[4 + i], i) {
+    for i in 0..shape.k {
+        if !before(keys, shape, bounds[i], s, i) || !before(keys, shape, s, bounds[4 + i], i) {
             return false;
         }
     }
@@ -75,12 +74,12 @@ pub fn between(low: i64, x: i64, high: i64) -> bool
 }
 
 // Whether slot s is amid the edges: each of its numbers between the lower one at i and the upper one at 4 + i.
-fn amid(pool: &Pool<'_>, s: usize, edges: &[i64; 8]) -> bool
-    requires { Slot (length pool.now.links.now) s }
-    ensures { Tells (Amid pool.now.shape.k edges.now (numbers_of pool.now.shape.k pool.now.keys.now s)) result }
+pub fn amid(keys: &[i64], shape: Shape, s: usize, edges: &[i64; 8]) -> bool
+    requires { Room shape (length keys.now) (3 * shape.c) × Slot (3 * shape.c) s }
+    ensures { Tells (Amid shape.k edges.now (numbers_of shape.k keys.now s)) result }
 {
-    for i in 0..pool.shape.k {
-        let x = cells::slot::number_at(pool.keys, pool.shape, s, i);
+    for i in 0..shape.k {
+        let x = cells::slot::number_at(keys, shape, s, i);
         if !between(edges[i], x, edges[4 + i]) {
             return false;
         }
@@ -89,12 +88,12 @@ fn amid(pool: &Pool<'_>, s: usize, edges: &[i64; 8]) -> bool
 }
 
 // Whether slot s is inside the bounds. Their edges, their numbers in the fields of their cuts, tell nearly always; a tie asks for the rest.
-fn enclosed(pool: &Pool<'_>, s: usize, fence: &Fence) -> bool
-    requires slot { Slot (length pool.now.links.now) s × BoundsIn pool.now.shape.c fence.now.bounds }
-    requires edged { Edged pool.now.shape.k pool.now.keys.now fence.now.bounds fence.now.edges }
-    ensures { Tells (Inside pool.now.shape.k pool.now.keys.now fence.now.bounds (numbers_of pool.now.shape.k pool.now.keys.now s)) result }
+pub fn enclosed(keys: &[i64], shape: Shape, s: usize, fence: &Fence) -> bool
+    requires room { Room shape (length keys.now) (3 * shape.c) × (Slot (3 * shape.c) s × BoundsIn shape.c fence.now.bounds) }
+    requires edged { Edged shape.k keys.now fence.now.bounds fence.now.edges }
+    ensures { Tells (Inside shape.k keys.now fence.now.bounds (numbers_of shape.k keys.now s)) result }
 {
-    amid(pool, s, &fence.edges) || inside(pool, s, &fence.bounds)
+    amid(keys, shape, s, &fence.edges) || inside(keys, shape, s, &fence.bounds)
 }
 
 // Whether h is the height over sides of heights a and b that are even enough: it is 1 or 2 above each, and not 2 above both.
@@ -106,20 +105,20 @@ pub fn over(h: usize, a: usize, b: usize) -> bool
 }
 
 // Whether the links of slot s stay in the pool, and its height is the one over two sides that are even enough.
-fn topped(pool: &Pool<'_>, s: usize) -> bool
-    requires { Slot (length pool.now.links.now) s }
-    ensures { Tells (Tops pool.now.links.now pool.now.shape.c s) result }
+pub fn topped(links: &[usize], c: usize, s: usize) -> bool
+    requires { Slot (length links.now) s × (length links.now ≡ 3 * c) }
+    ensures { Tells (Tops links.now c s) result }
 {
-    let l = cells::slot::left_of(pool.links, s);
-    let r = cells::slot::right_of(pool.links, s);
-    if pool.shape.c < l || pool.shape.c < r {
+    let l = cells::slot::left_of(links, s);
+    let r = cells::slot::right_of(links, s);
+    if c < l || c < r {
         return false;
     }
-    let h = cells::slot::height_of(pool.links, s);
+    let h = cells::slot::height_of(links, s);
     over(
         h,
-        cells::slot::height_of(pool.links, l),
-        cells::slot::height_of(pool.links, r),
+        cells::slot::height_of(links, l),
+        cells::slot::height_of(links, r),
     )
 }
 
@@ -130,7 +129,10 @@ pub fn pass(pool: &Pool<'_>, s: usize, cut: usize, left: usize, fence: &mut Fenc
     requires { Asked pool.now.shape cut fence.old.bounds × (Slot (length pool.now.links.now) s × Edged pool.now.shape.k pool.now.keys.now fence.old.bounds fence.old.edges) }
     ensures { Judged pool.now.shape.k pool.now.keys.now pool.now.links.now cut s left fence.old.bounds result × (fence.new ≡ fence.old) }
 {
-    if left == 0 || !topped(pool, s) || !enclosed(pool, s, fence) {
+    if left == 0
+        || !topped(pool.links, pool.shape.c, s)
+        || !enclosed(pool.keys, pool.shape, s, fence)
+    {
         return None;
     }
     let l = cells::slot::left_of(pool.links, s);

@@ -34,7 +34,16 @@ pub fn alike(a: &[i64], b: &[i64]) -> bool
     requires { (1 ≤ length a.now) × (1 ≤ length b.now) }
     ensures { IsTrue result ↔ (drop 1 a.now ≡ drop 1 b.now) }
 {
-    a[1..] == b[1..]
+    if a.len() != b.len() {
+        return false;
+    }
+    // a loop, since two slices' `==` is a call, and a tray asks for each pair of its items
+    for (x, y) in a[1..].iter().zip(&b[1..]) {
+        if x != y {
+            return false;
+        }
+    }
+    true
 }
 
 // The entry of an item.

@@ -1,5 +1,4 @@
 use mathlib.Core.Path.{◌≡◌}
-use native.Mathlib.Omega.{arith}
 use lib.ListN.{length}
 use Rattle.ask.proofs.Collects as laws
 use Rattle.ask.proofs.Standing as standing
@@ -12,10 +11,15 @@ returns-then-s-eq0 t c =
     let P = c.args.pool.now in
     laws.collected-nil P.shape.k P.keys.now P.links.now c.args.s c.args.cut c.args.bounds c.args.slots.now c.args.at c.if-s-eq0.true
 
-pub weigh_slot-w-requires : goal.weigh_slot-w-requires
-weigh_slot-w-requires t c =
+pub weigh_slot-w-requires-clause-cut_lt_k : goal.weigh_slot-w-requires-clause-cut_lt_k
+weigh_slot-w-requires-clause-cut_lt_k t c =
     let P = c.args.pool.now in
-    (c.requires.cut_lt_k, (omega arith, standing.pooled P.shape P.keys.now P.links.now c.args.s c.args.cut _ P.room c.if-s-eq0.false c.requires.at_in_bounds.1))
+    (c.requires.cut_lt_k, (P.room.k_high, standing.low-here P.shape P.keys.now P.links.now c.args.s c.args.cut _ P.room c.if-s-eq0.false c.requires.at_in_bounds.1))
+
+pub weigh_slot-w-requires-clause-keyed : goal.weigh_slot-w-requires-clause-keyed
+weigh_slot-w-requires-clause-keyed t c =
+    let P = c.args.pool.now in
+    standing.keyed-here P.shape P.keys.now P.links.now c.args.s c.args.cut _ P.room c.if-s-eq0.false c.requires.at_in_bounds.1
 
 pub left_of-l-requires : goal.left_of-l-requires
 left_of-l-requires t c =

@@ -6,8 +6,8 @@ use native.Mathlib.Omega.{arith}
 use lib.ListN.{length, take}
 use lib.Seq.{length-take-le}
 use Rattle.ask.proofs.Nears.{nearer-by, searched-nil, searched-near, searched-both, near-falls, far-falls, near-stands, far-stands}
-use Rattle.ask.proofs.Standing.{keyed-here, pooled}
-use Rattle.ask.proofs.Visits.{pool-kept}
+use Rattle.ask.proofs.Standing.{slot-here, keyed-here, low-here, pooled}
+use Rattle.ask.proofs.Visits.{pool-kept, pool-tabled}
 use Rattle.ask.proofs.near.+nearest_in.Goals as goal
 
 pub returns-then-s-eq0 : goal.returns-then-s-eq0
@@ -17,19 +17,30 @@ returns-then-s-eq0 t c =
     let P = Q.pool in
     searched-nil P.shape P.keys.now P.links.now Q.steps (take P.shape.k Q.numbers) A.s A.cut A.best c.requires.here.1 c.if-s-eq0.true
 
-pub visit-here-requires : goal.visit-here-requires
-visit-here-requires t c =
+pub visit-here-requires-clause-le_k : goal.visit-here-requires-clause-le_k
+visit-here-requires-clause-le_k t c =
     let A = c.args in
-    let Q = A.query.now in
-    let P = Q.pool in
-    ((omega arith, pooled P.shape P.keys.now P.links.now A.s A.cut P.shape.c P.room c.if-s-eq0.false c.requires.standing), c.requires.here.1)
+    let P = A.query.now.pool in
+    (P.room.k_low, (P.room.k_high, low-here P.shape P.keys.now P.links.now A.s A.cut P.shape.c P.room c.if-s-eq0.false c.requires.standing))
 
-pub turn_at-turn-requires : goal.turn_at-turn-requires
-turn_at-turn-requires t c =
+pub visit-here-requires-clause-keyed : goal.visit-here-requires-clause-keyed
+visit-here-requires-clause-keyed t c =
     let A = c.args in
-    let Q = A.query.now in
-    let P = Q.pool in
-    (c.requires.here.0, (omega arith, pooled P.shape P.keys.now P.links.now A.s A.cut P.shape.c P.room c.if-s-eq0.false c.requires.standing))
+    let P = A.query.now.pool in
+    (keyed-here P.shape P.keys.now P.links.now A.s A.cut P.shape.c P.room c.if-s-eq0.false c.requires.standing, pool-tabled P.shape (length P.keys.now) (length P.links.now) P.room A.best c.requires.here.1)
+
+pub turn_at-turn-requires-clause-cut_lt_k : goal.turn_at-turn-requires-clause-cut_lt_k
+turn_at-turn-requires-clause-cut_lt_k t c =
+    let A = c.args in
+    let P = A.query.now.pool in
+    (c.requires.here.0, (P.room.k_high, low-here P.shape P.keys.now P.links.now A.s A.cut P.shape.c P.room c.if-s-eq0.false c.requires.standing))
+
+pub turn_at-turn-requires-clause-keyed : goal.turn_at-turn-requires-clause-keyed
+turn_at-turn-requires-clause-keyed t c =
+    let A = c.args in
+    let P = A.query.now.pool in
+    let ne = c.if-s-eq0.false in
+    (keyed-here P.shape P.keys.now P.links.now A.s A.cut P.shape.c P.room ne c.requires.standing, slot-here P.shape P.keys.now P.links.now A.s A.cut P.shape.c P.room ne c.requires.standing)
 
 pub nearest_in-after-requires : goal.nearest_in-after-requires
 nearest_in-after-requires t c =

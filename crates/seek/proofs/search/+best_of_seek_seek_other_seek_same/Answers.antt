@@ -2,11 +2,21 @@ use Rattle.cells.specs.Slots.{tall}
 use Rattle.seek.proofs.Seeking as laws
 use Rattle.seek.proofs.search.+best_of_seek_seek_other_seek_same.Goals as goal
 
-pub best_of-further-requires : goal.best_of-further-requires
-best_of-further-requires t c =
+pub best_of-further-requires-clause-home_lt_k : goal.best_of-further-requires-clause-home_lt_k
+best_of-further-requires-clause-home_lt_k t c =
     let P = c.args.pool.now in
     let H = c.requires.here in
-    (H.0, (H.1.1, laws.sought-pooled P.shape P.keys.now P.links.now P.room c.args.side c.args.home H.0 c.args.s c.args.cut _ c.seek-sought.result c.if-s-eq0.false c.requires.standing c.seek-sought.ensures))
+    let best = laws.pool-keyed P.shape P.keys.now P.links.now P.room c.args.best H.1.1 in
+    let x = laws.pool-keyed P.shape P.keys.now P.links.now P.room c.seek-sought.result (laws.sought-pooled P.shape P.keys.now P.links.now P.room c.args.side c.args.home H.0 c.args.s c.args.cut _ c.seek-sought.result c.if-s-eq0.false c.requires.standing c.seek-sought.ensures) in
+    (H.0, (P.room.k_high, (best.1, x.1)))
+
+pub best_of-further-requires-clause-keyed : goal.best_of-further-requires-clause-keyed
+best_of-further-requires-clause-keyed t c =
+    let P = c.args.pool.now in
+    let H = c.requires.here in
+    let best = laws.pool-keyed P.shape P.keys.now P.links.now P.room c.args.best H.1.1 in
+    let x = laws.pool-keyed P.shape P.keys.now P.links.now P.room c.seek-sought.result (laws.sought-pooled P.shape P.keys.now P.links.now P.room c.args.side c.args.home H.0 c.args.s c.args.cut _ c.seek-sought.result c.if-s-eq0.false c.requires.standing c.seek-sought.ensures) in
+    (best.0, x.0)
 
 pub seek_other-left_of-l-requires : goal.seek_other-left_of-l-requires
 seek_other-left_of-l-requires t c = laws.here c.args.pool.now.room c.requires.here.1.1 c.requires.standing

@@ -3,4 +3,4 @@ use Rattle.sound.specs.Tree.{Amid}
 use Rattle.sound.proofs.tree.amid.Given as goal
 
 abbrev pub invariant-loop-i : goal.invariant-loop-i
-invariant-loop-i l = Amid l.i l.edges (numbers_of l.pool.shape.k l.pool.keys.now l.s)
+invariant-loop-i l = Amid l.i l.edges (numbers_of l.shape.k l.keys l.s)

@@ -3,4 +3,4 @@ use Rattle.sound.proofs.Marks.{Passed}
 use Rattle.sound.proofs.tree.inside.Given as goal
 
 abbrev pub invariant-loop-i : goal.invariant-loop-i
-invariant-loop-i l = Passed l.pool.shape.k l.pool.keys.now l.bounds (numbers_of l.pool.shape.k l.pool.keys.now l.s) l.i
+invariant-loop-i l = Passed l.shape.k l.keys l.bounds (numbers_of l.shape.k l.keys l.s) l.i
